@@ -1,7 +1,7 @@
 // The numbers that records use, each at this one place.
 
 // What a statement is, by its number from 1.
-#[derive(Clone, Copy, Debug)]
+#[derive(Clone, Copy)]
 pub enum Kind {
     Noop,
     Var,
@@ -19,7 +19,7 @@ pub enum Kind {
 }
 
 // What an expression is, by its number from 1.
-#[derive(Clone, Copy, Debug)]
+#[derive(Clone, Copy)]
 pub enum Form {
     Unit,
     True,
@@ -31,7 +31,7 @@ pub enum Form {
 }
 
 // What stands on the left of an assignment, by its number from 1.
-#[derive(Clone, Copy, Debug)]
+#[derive(Clone, Copy)]
 pub enum Target {
     Variable,
     Access,
@@ -40,8 +40,11 @@ pub enum Target {
 
 // Flags of a statement.
 pub const CONSTANT: u32 = 1;
+
 pub const EXPORTED: u32 = 2;
+
 pub const NEGATED: u32 = 4;
+
 pub const BREAK: u32 = 8;
 
 // The most statements that may stand around another one that has blocks.
@@ -49,8 +52,13 @@ pub const DEEPEST: usize = 64;
 
 // The most records of each sort, and the largest slot limit.
 pub const MOST_NODES: usize = 1_048_576;
+
 pub const MOST_EXPRS: usize = 1_048_576;
+
 pub const MOST_BYTES: usize = 1_048_576;
+
 pub const MOST_LABELS: usize = 65_536;
+
 pub const MOST_OPERATORS: usize = 4_096;
+
 pub const MOST_SLOTS: u32 = 65_535;

@@ -1,5 +1,5 @@
 // Why a call is refused or declined: one list for all calls.
-#[derive(Clone, Copy, Debug)]
+#[derive(Clone, Copy)]
 pub enum Refusal {
     // 10 to 17: the input
     TooLarge,
