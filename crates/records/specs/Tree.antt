@@ -2,7 +2,8 @@
 use mathlib.Core.Path.{_≡_}
 use mathlib.Core.List.{List, [], _∷_}
 use mathlib.Core.Bool.{Bool, true, false, cond, not, _||_, _&&_}
-use mathlib.Core.Option.{Option, none, some}
+use Rattle.std.specs.declared.option.Option.{Option}
+use Rattle.std.specs.declared.option.Option.the-variants.{Some, None}
 use Prim.Native.Nat.{ℕ, zero, suc, _+_, _≤_, _<_, max}
 use lib.ListN.{length, getD, take, drop}
 use lib.Dec.{eqb, ltb, leb}
@@ -144,7 +145,7 @@ operOf R o = record { token₁ = operatorAt R o .compound .token; name₁ = name
 
 -- A reference of 0 is absent.
 abbrev pub ifAny : {A : Type 0} → (ℕ → A) → ℕ → Option A
-ifAny f r = cond (eqb r 0) none (some (f r))
+ifAny f r = cond (eqb r 0) None (Some (f r))
 
 -- What the node at i is, without its blocks.
 abbrev pub headOf : Records → ℕ → Head

@@ -1,0 +1,5 @@
+pub mod Machine
+pub mod Throws
+pub mod Calls
+pub mod Reading
+pub mod Run
