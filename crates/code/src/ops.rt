@@ -9,19 +9,37 @@ pub enum Op {
     // pushes a truth value
     Bool(bool),
     // stores into a slot, which is constant or not from then on
-    StoreLocal { slot: u16, is_const: bool },
+    StoreLocal {
+        slot: u16,
+        is_const: bool,
+    },
     // pushes the handle of a name
     LoadNamed(u32),
     // assigns to a name that has no slot
-    AssignNamed { name: u32, op: Option<u32> },
+    AssignNamed {
+        name: u32,
+        op: Option<u32>,
+    },
     // assigns to a slot
-    AssignLocal { slot: u16, var_name: u32, op: Option<u32> },
+    AssignLocal {
+        slot: u16,
+        var_name: u32,
+        op: Option<u32>,
+    },
     // makes a new slot
-    DeclareLocal { name: u32, is_const: bool, is_global: bool },
+    DeclareLocal {
+        name: u32,
+        is_const: bool,
+        is_global: bool,
+    },
     Pop,
     Jump(u32),
-    JumpIfTrue { target: u32 },
-    JumpIfFalse { target: u32 },
+    JumpIfTrue {
+        target: u32,
+    },
+    JumpIfFalse {
+        target: u32,
+    },
     // moves the newest value below so many others
     Rotate(u8),
     // drops the slots from so many on
@@ -29,11 +47,20 @@ pub enum Op {
     Tick,
     Checkpoint,
     // works out a residual row
-    EvalAst { residual: u32, rewind_scope: bool },
-    PushHandler { target: u32, catch_var: Option<u32> },
+    EvalAst {
+        residual: u32,
+        rewind_scope: bool,
+    },
+    PushHandler {
+        target: u32,
+        catch_var: Option<u32>,
+    },
     PopHandler,
     IterInit,
-    IterNext { exit: u32, counter_slot: Option<u16> },
+    IterNext {
+        exit: u32,
+        counter_slot: Option<u16>,
+    },
     IterDrop,
     // stores into a slot that stays constant or not
     StoreShared(u16),

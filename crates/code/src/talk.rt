@@ -11,9 +11,17 @@ pub enum Question {
     // 3: the handle of a name that has no live slot
     Name(u32),
     // 4: what an operator row makes of the old handle and the new one
-    Combine { row: u32, old: u64, new: u64 },
+    Combine {
+        row: u32,
+        old: u64,
+        new: u64,
+    },
     // 5: assign the new handle to a name that has no slot, under an operator row or none
-    Assign { name: u32, row: Option<u32>, new: u64 },
+    Assign {
+        name: u32,
+        row: Option<u32>,
+        new: u64,
+    },
     // 6: an iterator over a handle
     Iterate(u64),
     // 7: the next item of an iterator

@@ -3,3 +3,6 @@ pub mod Throws
 pub mod Calls
 pub mod Reading
 pub mod Run
+pub mod Breaks
+pub mod Fed
+pub mod Writer

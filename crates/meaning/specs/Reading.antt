@@ -106,9 +106,9 @@ abbrev pub declares : Bytes → Cell → List Scope → List Scope
 declares x c [] = []
 declares x c (s ∷ ss) = sets x c s ∷ ss
 
--- The innermost handle of a name is set; whether it is constant stays.
+-- The innermost handle of a name is set; a constant stays as it is.
 abbrev pub rehandled : ℕ → Cell → Cell
-rehandled h c = record { handle = h; constant = c .constant }
+rehandled h c = record { handle = cond (c .constant) (c .handle) h; constant = c .constant }
 
 abbrev pub setsIn : Bytes → ℕ → Option Cell → Scope → List Scope → List Scope → List Scope
 setsIn x h None s ss r = s ∷ r
@@ -118,48 +118,32 @@ abbrev pub setsInner : Bytes → ℕ → List Scope → List Scope
 setsInner x h [] = []
 setsInner x h (s ∷ ss) = setsIn x h (s x) s ss (setsInner x h ss)
 
--- ## The state of the tree's run
+-- ## A state that asks
 
 -- What is still to be fed, and the questions asked so far, the newest first.
 pub record World : Type 0 where
   pub feed : List Event
   pub asked : List Ask
 
-pub record St : Type 0 where
-  pub scopes : List Scope
+-- Variables of some sort (scopes for the tree, slots for the player), and the world.
+pub record St (E : Type 0) : Type 0 where
+  pub env : E
   pub world : World
 
-abbrev pub withScopes : List Scope → St → St
-withScopes ss σ = record { scopes = ss; world = σ .world }
+abbrev pub st : {E : Type 0} → E → World → St E
+st e w = record { env = e; world = w }
 
 -- What stands around: the iterators of the `for` loops, the innermost first, and the number of `try` bodies.
 pub record Around : Type 0 where
   pub iters : List ℕ
   pub tries : ℕ
 
--- ## Asking
-
 -- What comes of a question: a value, done, a fault, or it waits, with what stands around it.
-pub data Heard : Type 0 where
-  value : ℕ → St → Heard
-  done : St → Heard
-  fault : ℕ → Position → St → Heard
-  waits : Ask → Around → St → Heard
-
--- The state once a question was asked, with what is left to be fed.
-abbrev pub heardAt : List Scope → List Event → List Ask → St
-heardAt ss f qs = record { scopes = ss; world = record { feed = f; asked = qs } }
-
--- While a question waits, puts are taken; the first answer that suits it counts.
-abbrev pub hears : Ask → Around → List Event → List Scope → List Ask → Heard
-hears q A [] ss qs = waits q A (heardAt ss [] qs)
-hears q A (value h ∷ f) ss qs = cond (valued q) (value h (heardAt ss f qs)) (hears q A f ss qs)
-hears q A (done ∷ f) ss qs = cond (doable q) (done (heardAt ss f qs)) (hears q A f ss qs)
-hears q A (fault h p ∷ f) ss qs = fault h p (heardAt ss f qs)
-hears q A (put x h ∷ f) ss qs = hears q A f (setsInner x h ss) qs
-
-abbrev pub asks : Ask → Around → St → Heard
-asks q A σ = hears q A (σ .world .feed) (σ .scopes) (q ∷ σ .world .asked)
+pub data Heard (E : Type 0) : Type 0 where
+  value : ℕ → St E → Heard E
+  done : St E → Heard E
+  fault : ℕ → Position → St E → Heard E
+  waits : Ask → Around → St E → Heard E
 
 -- ## Truth
 
@@ -189,30 +173,25 @@ mutual
     item : Position → Reading → Items → Items
 
 -- What comes of an expression: a value, a fault, or a question that waits.
-pub data Got : Type 0 where
-  got : ℕ → St → Got
-  bad : ℕ → Position → St → Got
-  dry : Ask → Around → St → Got
+pub data Got (E : Type 0) : Type 0 where
+  got : ℕ → St E → Got E
+  bad : ℕ → Position → St E → Got E
+  dry : Ask → Around → St E → Got E
 
 -- For a question that done does not answer.
-abbrev pub gotten : Heard → Got
+abbrev pub gotten : {E : Type 0} → Heard E → Got E
 gotten (value h σ) = got h σ
 gotten (done σ) = got 0 σ
 gotten (fault h p σ) = bad h p σ
 gotten (waits q A σ) = dry q A σ
 
-abbrev pub bindGot : Got → (ℕ → St → Got) → Got
+abbrev pub bindGot : {E : Type 0} → Got E → (ℕ → St E → Got E) → Got E
 bindGot (got h σ) k = k h σ
 bindGot (bad h p σ) k = bad h p σ
 bindGot (dry q A σ) k = dry q A σ
 
--- A read takes the innermost cell, or asks if no scope has the name.
-abbrev pub reads : Option Cell → Bytes → Around → St → Got
-reads None x A σ = gotten (asks (name x) A σ)
-reads (Some c) x A σ = got (c .handle) σ
-
 -- An item is tested: the first that decides stops the list.
-abbrev pub decides : Truth → Truth → ℕ → Position → St → Got → Got
+abbrev pub decides : {E : Type 0} → Truth → Truth → ℕ → Position → St E → Got E → Got E
 decides yes yes h p σ rest = got h σ
 decides yes no h p σ rest = rest
 decides yes neither h p σ rest = rest
@@ -221,18 +200,36 @@ decides no no h p σ rest = got h σ
 decides no neither h p σ rest = rest
 decides neither t h p σ rest = bad 3 p σ
 
--- all of: false decides, handle 1; any of: true decides, handle 2. The list's value otherwise is the other one.
-abbrev mutual
-  pub reading : Reading → Around → St → Got
-  reading unit A σ = got 0 σ
-  reading yes A σ = got 2 σ
-  reading (opaque e) A σ = gotten (asks (expression e) A σ)
-  reading no A σ = got 1 σ
-  reading (name x) A σ = reads (seek x (σ .scopes)) x A σ
-  reading (all is) A σ = goesThrough is no 1 2 A σ
-  reading (any is) A σ = goesThrough is yes 2 1 A σ
+-- Over variables of any sort: how a name is found, and how a put sets it.
+module _ {E : Type 0} (find : Bytes → E → Option Cell) (poke : Bytes → ℕ → E → E) where
+  -- While a question waits, puts are taken; the first answer that suits it counts.
+  abbrev pub hears : Ask → Around → List Event → E → List Ask → Heard E
+  hears q A [] e qs = waits q A (st e (record { feed = []; asked = qs }))
+  hears q A (value h ∷ f) e qs = cond (valued q) (value h (st e (record { feed = f; asked = qs }))) (hears q A f e qs)
+  hears q A (done ∷ f) e qs = cond (doable q) (done (st e (record { feed = f; asked = qs }))) (hears q A f e qs)
+  hears q A (fault h p ∷ f) e qs = fault h p (st e (record { feed = f; asked = qs }))
+  hears q A (put x h ∷ f) e qs = hears q A f (poke x h e) qs
 
-  -- The items from left to right: `on` decides with handle `hit`, the end gives `miss`.
-  pub goesThrough : Items → Truth → ℕ → ℕ → Around → St → Got
-  goesThrough end on hit miss A σ = got miss σ
-  goesThrough (item p r is) on hit miss A σ = bindGot (reading r A σ) (λ v σ′. decides (truth v) on hit p σ′ (goesThrough is on hit miss A σ′))
+  abbrev pub asks : Ask → Around → St E → Heard E
+  asks q A σ = hears q A (σ .world .feed) (σ .env) (q ∷ σ .world .asked)
+
+  -- A read takes the innermost cell, or asks if there is none.
+  abbrev pub reads : Option Cell → Bytes → Around → St E → Got E
+  reads None x A σ = gotten (asks (name x) A σ)
+  reads (Some c) x A σ = got (c .handle) σ
+
+  -- all of: false decides, handle 1; any of: true decides, handle 2. A list that nothing decides is the other.
+  abbrev mutual
+    pub reading : Reading → Around → St E → Got E
+    reading unit A σ = got 0 σ
+    reading yes A σ = got 2 σ
+    reading (opaque e) A σ = gotten (asks (expression e) A σ)
+    reading no A σ = got 1 σ
+    reading (name x) A σ = reads (find x (σ .env)) x A σ
+    reading (all is) A σ = goesThrough is no 1 2 A σ
+    reading (any is) A σ = goesThrough is yes 2 1 A σ
+
+    -- The items from left to right: `on` decides with handle `hit`, the end gives `miss`.
+    pub goesThrough : Items → Truth → ℕ → ℕ → Around → St E → Got E
+    goesThrough end on hit miss A σ = got miss σ
+    goesThrough (item p r is) on hit miss A σ = bindGot (reading r A σ) (λ v σ′. decides (truth v) on hit p σ′ (goesThrough is on hit miss A σ′))

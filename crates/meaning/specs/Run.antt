@@ -10,7 +10,26 @@ use Rattle.std.specs.declared.option.Option.the-variants.{Some, None}
 use Rattle.records.specs.declared.types.Position.{Position}
 use Rattle.records.specs.Tree.{Name, Exp, Oper, Head, Head.noop, Head.var, Head.expr, Head.call, Head.assign, Head.other, Head.block, Head.try, Head.for, Head.if, Head.while, Head.doLoop, Head.break, Head.continue, Head.return, Head.throw, Tree, Tree.node, Forest, Forest.nil, Forest.more, Stmt, Block}
 use Rattle.meaning.specs.Throws.{keep}
-use Rattle.meaning.specs.Reading.{Bytes, Sign, signOf, Ask, Ask.statement, Ask.combine, Ask.assign as assignTo, Ask.iterate, Ask.next, Event, Cell, Scope, noScope, seek, declares, setsInner, World, St, withScopes, Around, Heard, Heard.value as heard, Heard.done as over, Heard.fault as fails, Heard.waits as idle, asks, Truth, Truth.yes, Truth.no, Truth.neither, truth, Reading, reading, Got, Got.got, Got.bad, Got.dry, gotten}
+use Rattle.meaning.specs.Reading.{Bytes, Sign, signOf, Ask, Ask.statement, Ask.combine, Ask.assign as assignTo, Ask.iterate, Ask.next, Event, Cell, Scope, noScope, seek, declares, setsInner, World, St as StOf, st, Around, Heard as HeardOf, Heard.value as heard, Heard.done as over, Heard.fault as fails, Heard.waits as idle, asks as asksOf, Truth, Truth.yes, Truth.no, Truth.neither, truth, Reading, reading as readingOf, Got as GotOf, Got.got, Got.bad, Got.dry, gotten}
+
+-- The tree's variables are scopes, the innermost first.
+abbrev pub St : Type 0
+St = StOf (List Scope)
+
+abbrev pub Heard : Type 0
+Heard = HeardOf (List Scope)
+
+abbrev pub Got : Type 0
+Got = GotOf (List Scope)
+
+abbrev pub asks : Ask → Around → St → Heard
+asks q A σ = asksOf seek setsInner q A σ
+
+abbrev pub reading : Reading → Around → St → Got
+reading r A σ = readingOf seek setsInner r A σ
+
+abbrev pub withScopes : List Scope → St → St
+withScopes ss σ = st ss (σ .world)
 
 -- What comes of a statement: its value; a `break` with its value or a `continue` that leaves it; the script's value
 -- from a `return`; a fault; a question that waits, with what stands around it; or the rounds of its loops are spent.
@@ -51,13 +70,13 @@ bindN (idle q A σ) k = waits q A σ
 -- ## Scopes
 
 abbrev pub opened : St → St
-opened σ = withScopes (noScope ∷ σ .scopes) σ
+opened σ = withScopes (noScope ∷ σ .env) σ
 
 abbrev pub declared : Bytes → ℕ → Bool → St → St
-declared x h k σ = withScopes (declares x (record { handle = h; constant = k }) (σ .scopes)) σ
+declared x h k σ = withScopes (declares x (record { handle = h; constant = k }) (σ .env)) σ
 
 abbrev pub closed : ℕ → St → St
-closed d σ = withScopes (keep d (σ .scopes)) σ
+closed d σ = withScopes (keep d (σ .env)) σ
 
 -- The scopes above the outermost d are closed on every leaving.
 abbrev pub closing : ℕ → Out → Out
@@ -131,7 +150,7 @@ Running = Around → ℕ → St → Out
 
 -- A block in a scope of its own.
 abbrev pub scoped : Running → Running
-scoped b A n σ = closing (length (σ .scopes)) (b A n (opened σ))
+scoped b A n σ = closing (length (σ .env)) (b A n (opened σ))
 
 -- A catch name, or none.
 abbrev pub naming : Option Name → ℕ → St → St
@@ -144,7 +163,7 @@ signed (Some o) = Some (signOf o)
 
 -- A name's innermost handle is set; the statement's value is unit.
 abbrev pub setting : Bytes → ℕ → St → Out
-setting x v σ = value 0 (withScopes (setsInner x v (σ .scopes)) σ)
+setting x v σ = value 0 (withScopes (setsInner x v (σ .env)) σ)
 
 -- Assigning to a constant faults with handle 4; an operator on a local asks; a name in no scope asks.
 abbrev pub combining : Option Oper → Bytes → ℕ → Cell → Around → St → Out
@@ -179,18 +198,18 @@ module _ (ρ : ℕ → Reading) where
   runHead (var k x e r) body branch A n σ = bindG (evaluate e A σ) (λ v σ′. value 0 (declared (x .bytes) v k σ′))
   runHead (expr e) body branch A n σ = bindG (evaluate e A σ) value
   runHead (call x i) body branch A n σ = bindG (gotten (asks (statement i) A σ)) value
-  runHead (assign x e o at mark) body branch A n σ = bindG (evaluate e A σ) (λ v σ′. assigning (seek (x .bytes) (σ′ .scopes)) o (x .bytes) v at A σ′)
+  runHead (assign x e o at mark) body branch A n σ = bindG (evaluate e A σ) (λ v σ′. assigning (seek (x .bytes) (σ′ .env)) o (x .bytes) v at A σ′)
   runHead (other i) body branch A n σ = bindG (gotten (asks (statement i) A σ)) value
   runHead block body branch A n σ = scoped body A n σ
   -- the body's value, or unit when a fault was caught; the catch name has a scope around the catch block
   runHead (try x mark) body branch A n σ =
       catching (scoped body (inTry A) n σ)
-      (λ h σ′. closing (length (σ′ .scopes)) (bindV (scoped branch A n (naming x h (opened σ′))) (λ v σ″. value 0 σ″)))
+      (λ h σ′. closing (length (σ′ .env)) (bindV (scoped branch A n (naming x h (opened σ′))) (λ v σ″. value 0 σ″)))
   -- the variable is unit before the first item; every round in the same scope
   runHead (for x e mark) body branch A n σ =
       bindG (evaluate e A σ) (λ v σ₁.
       bindG (gotten (asks (iterate v) A σ₁)) (λ it σ₂.
-      closing (length (σ₂ .scopes))
+      closing (length (σ₂ .env))
       (rounds (λ k σ₃. bindN (asks (next it) (inFor it A) σ₃) (λ u σ₄. scoped body (inFor it A) k (declared (x .bytes) u false σ₄))) n (declared (x .bytes) 0 false (opened σ₂)))))
   runHead (if e) body branch A n σ = bindG (evaluate e A σ) (λ v σ′. test (truth v) (e .at) σ′ (scoped body A n σ′) (scoped branch A n σ′))
   runHead (while e mark) body branch A n σ = rounds (whileRound (endless e) e body A) n σ
@@ -218,4 +237,4 @@ module _ (ρ : ℕ → Reading) where
 
   -- Fed so many events from the beginning, at most n rounds of each loop.
   abbrev pub runScript : Block → List Event → ℕ → Out
-  runScript b f n = runList b 0 outermost n (record { scopes = noScope ∷ []; world = record { feed = f; asked = [] } })
+  runScript b f n = runList b 0 outermost n (st (noScope ∷ []) (record { feed = f; asked = [] }))
