@@ -6,3 +6,5 @@ pub mod Run
 pub mod Breaks
 pub mod Fed
 pub mod Writer
+pub mod LowerState
+pub mod Lower
