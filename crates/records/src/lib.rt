@@ -3,6 +3,7 @@ ghost use Rattle.records.specs.Numbers.{numberOf};
 ghost use Rattle.records.specs.Tree.{records, headOf};
 
 mod kinds;
+mod nest;
 mod refusals;
 mod types;
 

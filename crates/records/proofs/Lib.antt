@@ -1,0 +1,5 @@
+pub mod Bools
+pub mod Forests
+pub mod Statements
+pub mod Expressions
+pub mod Accepted
