@@ -19,16 +19,8 @@ use Rattle.meaning.specs.Reading.{Bytes, Scope, seek, Event, World, Around}
 use Rattle.meaning.specs.Run.{Out, Out.value, Out.broke, Out.continued, Out.returned, Out.fault, Out.waits as idles, Out.spent, runScript}
 use Rattle.meaning.specs.Fed.{Tables, nameAt, signAt, numberOf, inWords, findSlot, Conf, conf, Comes, Goes}
 use Rattle.meaning.specs.Writer.{Writer, Lawful, Holds}
-use Rattle.meaning.proofs.Place.{Heights, Layout, CodeScript, deepList}
-
--- The armed handlers.
-abbrev pub armed : List Handler → ℕ
-armed [] = 0
-armed (h ∷ hs) = cond (h .armed) (suc (armed hs)) (armed hs)
-
--- The heights of a machine.
-abbrev pub heightsOf : Mach → Heights
-heightsOf m = record { values = length (m .values); slots = length (m .slots .live); iters = length (m .iters); handlers = length (m .handlers) }
+use Rattle.meaning.specs.Agreement.{Heights, heightsOf, armed, Alike}
+use Rattle.meaning.proofs.Place.{Layout, CodeScript, deepList}
 
 module _ (code : List Instr) (rows : List Row) (T : Tables) (W : Writer) (room : ℕ) (H : ℕ → Heights) (outside : ℕ → Bool) where
   -- Set code: operations outside segments have heights, an expression is its segment.
@@ -49,10 +41,6 @@ module _ (code : List Instr) (rows : List Row) (T : Tables) (W : Writer) (room :
   Level (ended e) = Unit {0}
   Level halted = ⊥
 
-  -- Every name of the table looks up alike.
-  abbrev pub Alike : List Scope → Locals → Type 0
-  Alike ss l = (x : ℕ) → x < length (T .names) → findSlot T (nameAt T x) l ≡ seek (nameAt T x) ss
-
   -- What a fed player has to do, by what the tree's run with at most n rounds comes to.
   abbrev pub Follows : ℕ → Out → Conf → Type 0
   Follows n (value v σ) c = Comes code rows T (λ d. Level (d .state)) (λ d. d ≡ conf (ended (Gives v)) (σ .world)) c
@@ -61,7 +49,7 @@ module _ (code : List Instr) (rows : List Row) (T : Tables) (W : Writer) (room :
   Follows n (returned v σ) c = Comes code rows T (λ d. Level (d .state)) (λ d. d ≡ conf (ended (Gives v)) (σ .world)) c
   Follows n (fault h p σ) c = Comes code rows T (λ d. Level (d .state)) (λ d. d ≡ conf (ended (Faults h p)) (σ .world)) c
   Follows n (idles q A σ) c = Comes code rows T (λ d. Level (d .state))
-      (λ d. (k : Question) × (u : Purpose) × (i : ℕ) × (m : Mach) × (d ≡ conf (waits k u i m) (σ .world)) × (inWords T k ≡ q) × Alike (σ .env) (m .slots) × (m .iters ≡ A .iters) × (armed (m .handlers) ≡ A .tries)) c
+      (λ d. (k : Question) × (u : Purpose) × (i : ℕ) × (m : Mach) × (d ≡ conf (waits k u i m) (σ .world)) × (inWords T k ≡ q) × Alike T (σ .env) (m .slots) × (m .iters ≡ A .iters) × (armed (m .handlers) ≡ A .tries)) c
   Follows n spent c = Goes code rows T (λ d. Level (d .state)) (suc n) c
 
   -- The simulation: wherever a script's code stands, the fed player follows the tree.

@@ -17,6 +17,7 @@ use Rattle.code.specs.declared.ops.Op.the-variants.{Unit as UnitOp, StoreLocal,
 use Rattle.meaning.specs.Reading.{Bytes, sameBytes, Sign, signOf}
 use Rattle.meaning.specs.Run.{endless}
 use Rattle.meaning.specs.Breaks.{hasBreakValue}
+use Rattle.meaning.specs.Agreement.{Heights}
 
 -- ## What a tree's code leaves behind
 
@@ -137,13 +138,6 @@ catchScope None = []
 catchScope (Some x) = x .bytes ∷ []
 
 -- ## Where code stands
-
--- The heights at which an operation is met.
-pub record Heights : Type 0 where
-  pub values : ℕ
-  pub slots : ℕ
-  pub iters : ℕ
-  pub handlers : ℕ
 
 -- The loop around: where `continue` and `break` go, whether it has a break value, the scopes that they leave, and how
 -- many handlers and iterators there are to give up on the way.

@@ -8,3 +8,7 @@ pub mod Fed
 pub mod Writer
 pub mod LowerState
 pub mod Lower
+pub mod Writers
+pub mod SetCode
+pub mod Compiled
+pub mod Agreement
