@@ -13,3 +13,4 @@ pub mod SetCode
 pub mod Compiled
 pub mod Agreement
 pub mod Starred
+pub mod Whole
