@@ -1,22 +1,22 @@
 -- Code that stands in one layout stands in another, its places moved: it is enough that each operation and each
 -- expression does.
-use mathlib.Core.Path.{_≡_, refl, sym, ap, subst}
-use mathlib.Core.List.{List, [], _∷_}
-use mathlib.Core.Logic.{_⊎_, inl, inr}
+use mathlib.Core.Path.{_≡_, refl, ap, subst}
+use mathlib.Core.List.{[], _∷_}
+use mathlib.Core.Logic.{inl, inr}
 use mathlib.Core.Bool.{Bool, true, false, _||_}
 use Prim.Native.Nat.{ℕ, zero, suc}
 use lib.Dec.{eqb}
 use Rattle.std.specs.declared.option.Option.{Option}
 use Rattle.std.specs.declared.option.Option.the-variants.{Some, None}
 use Rattle.records.specs.declared.types.Position.{Position}
-use Rattle.records.specs.Tree.{Name, Exp, Oper, Head, Head.noop, Head.var, Head.expr, Head.call, Head.assign, Head.other, Head.block, Head.try, Head.for, Head.if, Head.while, Head.doLoop, Head.break, Head.continue, Head.return, Head.throw, Tree, Tree.node, Forest, Forest.nil, Forest.more, Stmt, Block}
+use Rattle.records.specs.Tree.{Name, Exp, Oper, Head, Head.noop, Head.var, Head.expr, Head.call, Head.assign, Head.other, Head.block, Head.try, Head.for, Head.if, Head.while, Head.doLoop, Head.break, Head.continue, Head.return, Head.throw, Tree.node, Forest.nil, Forest.more, Stmt, Block}
 use Rattle.code.specs.declared.ops.Op.{Op}
 use Rattle.meaning.specs.Reading.{Bytes, Sign}
 use Rattle.meaning.specs.Run.{endless}
 use Rattle.meaning.specs.Breaks.{hasBreakValue}
 use Rattle.meaning.specs.SetCode.{moveOp}
 use Rattle.meaning.specs.Agreement.{Heights}
-use Rattle.meaning.proofs.Place.{kind, kindList, Scopes, after, afterList, resolve, catchScope, LoopAt, Ctx, inScopes, deeperLoop, inTryCode, lessHands, lessIters, upIters, topCtx, one, Layout, Hop, Glue, Drop, Pops, Drops, Unwind, upTo, Leave, Blank, Break, Continue, ExpAny, OperAny, NameAny, Assigns, Declares, Tests, Exits, DoTest, Checks, whileLoop, forLoop, CodeHead, Scoped, Code, CodeList, CodeScript}
+use Rattle.meaning.proofs.Place.{kind, kindList, Scopes, after, afterList, resolve, catchScope, LoopAt, Ctx, inScopes, deeperLoop, inTryCode, lessHands, lessIters, topCtx, one, Layout, Hop, Glue, Drop, Pops, Drops, Unwind, upTo, Leave, Blank, Break, Continue, ExpAny, OperAny, NameAny, Assigns, Declares, Tests, Exits, DoTest, Checks, whileLoop, forLoop, CodeHead, Scoped, Code, CodeList, CodeScript}
 
 -- A layout whose operations and expressions go to another's along a map of places.
 pub record Moving (P Q : Layout) (μ : ℕ → ℕ) : Type 0 where

@@ -9,20 +9,25 @@ use lib.ListN.{length, getD, replicate, length-replicate, getD-replicate, List·
 use lib.Seq.{getD-append-add}
 use Rattle.std.specs.declared.option.Option.{Option}
 use Rattle.std.specs.declared.option.Option.the-variants.{Some, None}
-use Rattle.records.specs.declared.types.Position.{Position}
-use Rattle.records.specs.Tree.{Block}
-use Rattle.code.specs.declared.ops.Op.{Op}
-use Rattle.code.specs.declared.ops.Op.the-variants.{EvalAst}
 use Rattle.code.specs.declared.ops.Instr.{Instr}
 use Rattle.code.specs.declared.ops.Row.{Row}
 use Rattle.meaning.specs.Calls.{instrAt, noInstr}
 use Rattle.meaning.specs.Fed.{Tables}
-use Rattle.meaning.specs.Writer.{Writer, shift, Holds}
+use Rattle.meaning.specs.Writer.{Writer, Holds}
 use Rattle.meaning.specs.SetCode.{exprOf, moveOp, widthOf, width, placeOf, shiftAll, pieceOf, piece, setFrom, setCode}
 use Rattle.meaning.specs.Agreement.{Heights}
 use Rattle.meaning.proofs.Layouts.{setLayout}
-use Rattle.meaning.proofs.Lowered.{noHeights, lowLayout, Moved, SettingStands}
+use Rattle.meaning.proofs.Lowered.{noHeights, lowLayout, SettingStands}
 use Rattle.meaning.proofs.Moves.{Moving, scriptMoves}
+
+-- At a place of set code are heights, or none inside a segment.
+abbrev heightOr : Option Heights → Heights
+heightOr None = noHeights
+heightOr (Some h) = h
+
+abbrev outsideOr : Option Heights → Bool
+outsideOr None = false
+outsideOr (Some h) = true
 
 module _ (W : Writer) (rows : List Row) where
   -- ## Places
@@ -104,7 +109,7 @@ module _ (W : Writer) (rows : List Row) where
 
   -- ## Heights
 
-  -- Listed place by place, none inside a segment.
+  -- What is listed for an operation.
   abbrev marksOf : List Heights → ℕ → Option ℕ → List (Option Heights)
   marksOf hs i None = Some (getD hs i noHeights) ∷ []
   marksOf hs i (Some e) = replicate (length (W .segment e)) None
@@ -112,14 +117,6 @@ module _ (W : Writer) (rows : List Row) where
   marks-length : (hs : List Heights) (i : ℕ) (o : Option ℕ) → length (marksOf hs i o) ≡ widthOf W rows o
   marks-length hs i None = refl
   marks-length hs i (Some e) = length-replicate (length (W .segment e)) None
-
-  abbrev heightOr : Option Heights → Heights
-  heightOr None = noHeights
-  heightOr (Some h) = h
-
-  abbrev outsideOr : Option Heights → Bool
-  outsideOr None = false
-  outsideOr (Some h) = true
 
   -- ## Setting
 
@@ -138,6 +135,7 @@ module _ (W : Writer) (rows : List Row) where
         → getD marks n None ≡ getD (marksOf hs k o) j None
     mark-at = laid (λ i at x. marksOf hs i) (λ i at x. marks-length hs i) None code
 
+    -- An operation that works out no expression keeps its heights.
     alone : (k : ℕ) → k < length code → exprOf rows (instrAt code k .op) ≡ None → getD marks (μ k) None ≡ Some (getD hs k noHeights)
     alone k h bare = mark-at k 0 (μ k) None h bare (omega arith) (omega arith)
 
@@ -176,6 +174,6 @@ pub settingStands : SettingStands
 settingStands code rows T W deepest room hs k B known targets fits stands = record {
   heights = H W rows code hs;
   outside = outside W rows code hs;
-  marks = λ i below bare. ap (outsideOr W rows) (alone W rows code hs i below bare);
+  marks = λ i below bare. ap outsideOr (alone W rows code hs i below bare);
   stands = scriptMoves (moving W rows code hs T deepest room known fits) k B (place-zero W rows code) stands;
 }
