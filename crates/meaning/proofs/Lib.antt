@@ -1,3 +1,5 @@
 pub mod Place
 pub mod Layouts
 pub mod Lowered
+pub mod Moves
+pub mod Setting
