@@ -8,6 +8,7 @@ use native.Mathlib.Omega.{arith}
 use lib.ListN.{length, getD}
 use lib.Dec.{eqb}
 use borrow.Author.Tests.{eqb-true}
+use Rattle.std.proofs.shelf.Tests.{and-parts}
 use Rattle.std.specs.declared.option.Option.{Option}
 use Rattle.std.specs.declared.option.Option.the-variants.{Some, None}
 use Rattle.code.specs.declared.talk.Slot.{Slot}
@@ -15,17 +16,13 @@ use Rattle.meaning.specs.Machine.{slotAt, newestFrom, newest}
 use Rattle.meaning.specs.Reading.{Bytes, sameBytes}
 use Rattle.meaning.specs.Fed.{Tables, nameAt, placeFrom, numberOf}
 
-pub both : (s t : Bool) → s && t ≡ true → (s ≡ true) × (t ≡ true)
-both true t e = (refl, e)
-both false t e = (e, elim t as (λ v. v ≡ true) [ true ↦ refl | false ↦ e ])
-
 -- ## Names
 
 pub same-bytes : (x y : Bytes) → sameBytes x y ≡ true → x ≡ y
 same-bytes [] [] e = refl
 same-bytes [] (y ∷ ys) e = absurd (let z : _≡_ {A = ℕ} 0 1 = cc in omega arith)
 same-bytes (x ∷ xs) [] e = absurd (let z : _≡_ {A = ℕ} 0 1 = cc in omega arith)
-same-bytes (x ∷ xs) (y ∷ ys) e = let h = both (eqb x y) (sameBytes xs ys) e in ap₂ _∷_ (eqb-true x y (h .0)) (same-bytes xs ys (h .1))
+same-bytes (x ∷ xs) (y ∷ ys) e = let h = and-parts (eqb x y) (sameBytes xs ys) e in ap₂ _∷_ (eqb-true x y (h .0)) (same-bytes xs ys (h .1))
 
 -- A place found in a list from place i on is k places further, and the name stands there.
 place-found : (b : Bytes) (ns : List Bytes) (i x : ℕ) → placeFrom b i ns ≡ Some x → (k : ℕ) × (x ≡ i + k) × (k < length ns) × (getD ns k [] ≡ b)

@@ -2,3 +2,4 @@ pub mod Place
 pub mod Layouts
 pub mod Lowered
 pub mod Found
+pub mod WritersPlay

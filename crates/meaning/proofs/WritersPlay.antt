@@ -1,0 +1,201 @@
+-- Written code plays as its reading runs: where the operations of a reading stand, a fed player comes to what the
+-- reading comes to.
+use mathlib.Core.Path.{_≡_, refl, sym, ap, subst, _∙_}
+use mathlib.Core.List.{List, [], _∷_, _++_}
+use mathlib.Core.Bool.{Bool, true, false, cond}
+use Prim.Native.Nat.{ℕ, zero, suc, _+_, _≤_, _<_}
+use native.Mathlib.Omega.{arith}
+use lib.ListN.{length, length-append}
+use lib.Dec.{eqb, ltb}
+use borrow.Author.Tests.{lt-ltb}
+use Rattle.std.specs.declared.option.Option.{Option}
+use Rattle.std.specs.declared.option.Option.the-variants.{Some, None}
+use Rattle.records.specs.declared.types.Position.{Position}
+use Rattle.records.specs.Tree.{nowhere}
+use Rattle.code.specs.declared.ops.Op.{Op}
+use Rattle.code.specs.declared.ops.Op.the-variants.{Unit as UnitOp, Bool as BoolOp, LoadNamed, Jump, JumpIfTrue, JumpIfFalse, EvalExpr}
+use Rattle.code.specs.declared.ops.Instr.{Instr}
+use Rattle.code.specs.declared.ops.Row.{Row}
+use Rattle.code.specs.declared.talk.Slot.{Slot}
+use Rattle.code.specs.declared.talk.Question.{Question}
+use Rattle.code.specs.declared.talk.Question.the-variants.{Expression, Name}
+use Rattle.code.specs.declared.talk.Purpose.{Purpose}
+use Rattle.code.specs.declared.talk.Purpose.the-variants.{Push}
+use Rattle.meaning.specs.Machine.{Locals, Mach, Effect, Effect.next, Effect.goto, Effect.ask, Effect.fault, Effect.give, Effect.stuck, slotAt, newest, pushes, named, branch, exec}
+use Rattle.meaning.specs.Throws.{catches}
+use Rattle.meaning.specs.Calls.{State, State.ready, State.waits, State.ended, State.halted, instrAt, landed, after, slotOf}
+use Rattle.meaning.specs.Reading.{Bytes, Ask, Ask.expression, Ask.name as asksName, valued, doable, Event, Event.value, Event.done, Event.fault, Event.put, Around, World, St, st, Truth, Truth.yes as holds, Truth.no as fails, Truth.neither, truth, Got, Got.got, Got.bad, Got.dry, gotten, bindGot, decides, hears, asks, reads, Reading, Reading.unit, Reading.yes, Reading.opaque, Reading.no, Reading.name, Reading.all, Reading.any, Items, Items.end, Items.item, reading, goesThrough}
+use Rattle.meaning.specs.Fed.{Tables, nameAt, numberOf, inWords, cellOf, cellAt, findSlot, pokeSlot, Conf, conf, noted, move, Comes, Comes.here, Comes.then}
+use Rattle.meaning.specs.Writer.{shift, Holds, risen, Inside, Settles}
+use Rattle.meaning.specs.Writers.{plain, size, sizeItems, load, written, writtenItems}
+use Rattle.meaning.proofs.Found.{number-found, newest-there}
+
+-- ## Readings that can be written
+
+-- Every name of a reading is in the table, and every expression that it asks is a record.
+abbrev mutual
+  pub Fine : Tables → ℕ → Reading → Type 0
+  Fine T exprs unit = Unit {0}
+  Fine T exprs yes = Unit {0}
+  Fine T exprs (opaque e) = (0 < e) × (e < exprs)
+  Fine T exprs no = Unit {0}
+  Fine T exprs (name b) = (x : ℕ) × (numberOf T b ≡ Some x)
+  Fine T exprs (all is) = FineItems T exprs is
+  Fine T exprs (any is) = FineItems T exprs is
+
+  pub FineItems : Tables → ℕ → Items → Type 0
+  FineItems T exprs end = Unit {0}
+  FineItems T exprs (item p r is) = Fine T exprs r × FineItems T exprs is
+
+-- ## Where parts of a segment stand
+
+mutual
+  pub length-written : (T : Tables) (r : Reading) (d : ℕ) → length (written T r d) ≡ size r
+  length-written T unit d = refl
+  length-written T yes d = refl
+  length-written T (opaque e) d = refl
+  length-written T no d = refl
+  length-written T (name b) d = refl
+  length-written T (all is) d = let e = length-items T is JumpIfFalse (suc (suc (sizeItems is + d))) d in simp length-append (omega arith)
+  length-written T (any is) d = let e = length-items T is JumpIfTrue (suc (suc (sizeItems is + d))) d in simp length-append (omega arith)
+
+  pub length-items : (T : Tables) (is : Items) (jump : ℕ → Op) (f d : ℕ) → length (writtenItems T is jump f d) ≡ sizeItems is
+  length-items T end jump f d = refl
+  length-items T (item p r is) jump f d = let e = length-written T r d in let g = length-items T is jump f (suc (size r + d)) in simp length-append (omega arith)
+
+-- What stands from place a on, in two parts: the second stands where the first ends.
+parts : (code : List Instr) (from : ℕ) (xs ys : List Instr) (a c : ℕ) → c ≡ a + length xs → Holds code from a (xs ++ ys) → Holds code from a xs × Holds code from c ys
+parts code from [] ys a c e h = let q : a ≡ c = omega arith in (tt, subst (λ (k : ℕ). Holds code from k ys) q h)
+parts code from (x ∷ xs) ys a c e h = let r = parts code from xs ys (suc a) c (omega arith) (h .1) in ((h .0, r .0), r .1)
+
+-- A throw leads to no question.
+noted-landed : (T : Tables) (e : Effect) (w : World) → noted T (landed e) w ≡ w
+noted-landed T (next m) w = refl
+noted-landed T (goto t m) w = refl
+noted-landed T (ask q u m) w = refl
+noted-landed T (fault h p m) w = refl
+noted-landed T (give h) w = refl
+noted-landed T stuck w = refl
+
+-- The conditional jump of a list: any of jumps where true decides, all of where false does.
+abbrev pub jumpOn : Bool → ℕ → Op
+jumpOn true = JumpIfTrue
+jumpOn false = JumpIfFalse
+
+abbrev pub truthOn : Bool → Truth
+truthOn true = holds
+truthOn false = fails
+
+-- ## Playing
+
+-- A segment stands from place `from` on up to before `end`; it plays from the machine m, with room for a value more.
+module _ (code : List Instr) (rows : List Row) (T : Tables) (from end : ℕ) (m : Mach) (room : length (m .values) + 1 ≤ 64) (A : Around) where
+  abbrev Runs : (Conf → Type 0) → Conf → Type 0
+  Runs Q c = Comes code rows T (λ d. Inside from end (length (m .values) + 1) (d .state)) Q c
+
+  -- At a place of the segment, with the values vs above those of m.
+  abbrev at : ℕ → List ℕ → Locals → World → Conf
+  at i vs l w = conf (ready i (risen vs l m)) w
+
+  -- What a part of the segment that ends at b comes to.
+  abbrev Exit : ℕ → Got Locals → Conf → Type 0
+  Exit b (got v σ) c = c ≡ at b (v ∷ []) (σ .env) (σ .world)
+  Exit b (bad h p σ) c = (vs : List ℕ) × (length vs ≤ 1) × (c ≡ conf (landed (catches h p (risen vs (σ .env) m))) (σ .world))
+  Exit b (dry q B σ) c =
+      (k : Question) × (u : Purpose) × (i : ℕ) × (vs : List ℕ) × (inWords T k ≡ q) × (from ≤ i) × (i < end) × (length vs ≤ 1)
+      × (c ≡ conf (waits k u i (risen vs (σ .env) m)) (σ .world))
+
+  record Done (b : ℕ) (g : Got Locals) (c : Conf) : Type 0 where
+    is : Exit b g c
+
+  settled : {b : ℕ} {g : Got Locals} {c : Conf} → Exit b g c → Runs (Done b g) c
+  settled q = here (record { is = q })
+
+  onto : {Q Q′ : Conf → Type 0} {c : Conf} → Runs Q c → ((d : Conf) → Q d → Runs Q′ d) → Runs Q′ c
+  onto (here q) k = k _ q
+  onto (then i e t) k = then i e (onto t k)
+
+  -- The part from place a up to before b, begun with these slots, comes to g.
+  abbrev Leads : ℕ → ℕ → Locals → World → Got Locals → Type 0
+  Leads a b l w g = Runs (Done b g) (at a [] l w)
+
+  -- One operation at a place of the segment.
+  steps : {Q : Conf → Type 0} {i : ℕ} {n : Mach} {w : World} (x : Instr) (y : Effect) → from ≤ i → i < end → length (n .values) ≤ length (m .values) + 1
+      → instrAt code i ≡ x → exec rows (x .op) (x .at) n ≡ y → Runs Q (conf (after y i) (noted T (after y i) w)) → Runs Q (conf (ready i n) w)
+  steps {Q} {i} {n} {w} x y lo hi low e f t =
+      then (lo, hi, low) (ap (λ (z : Instr). Some (conf (after (exec rows (z .op) (z .at) n) i) (noted T (after (exec rows (z .op) (z .at) n) i) w))) e ∙ ap (λ (z : Effect). Some (conf (after z i) (noted T (after z i) w))) f) t
+
+  -- There is room for a value.
+  pushed : (h : ℕ) (l : Locals) → pushes h (risen [] l m) ≡ next (risen (h ∷ []) l m)
+  pushed h l = rw (lt-ltb (length (m .values)) 64 (omega arith))
+
+  -- ### Questions
+
+  -- While a question waits, what is fed is taken.
+  takes-in : {Q : Conf → Type 0} {q : Question} {i : ℕ} {l : Locals} {w : World} {c : Conf} → from ≤ i → i < end
+      → move code rows T (conf (waits q Push i (risen [] l m)) w) ≡ Some c → Runs Q c → Runs Q (conf (waits q Push i (risen [] l m)) w)
+  takes-in lo hi e t = then (lo, hi, omega arith) e t
+
+  -- A question that values answer waits at place i: the feed decides what comes of it.
+  heard : (q : Question) → valued (inWords T q) ≡ true → doable (inWords T q) ≡ false → (i : ℕ) → from ≤ i → i < end → (f : List Event) (l : Locals) (qs : List Ask)
+      → Runs (Done (suc i) (gotten (hears (findSlot T) (pokeSlot T) (inWords T q) A f l qs))) (conf (waits q Push i (risen [] l m)) (record { feed = f; asked = qs }))
+  heard q v d i lo hi [] l qs = settled (q, Push, i, [], refl, lo, hi, omega arith, refl)
+  heard q v d i lo hi (value h ∷ f) l qs = rw v (takes-in lo hi (ap (λ (y : Effect). Some (conf (after y i) (record { feed = f; asked = qs }))) (pushed h l)) (settled refl))
+  heard q v d i lo hi (done ∷ f) l qs = rw d (takes-in lo hi refl (heard q v d i lo hi f l qs))
+  heard q v d i lo hi (fault h p ∷ f) l qs = takes-in lo hi refl (settled ([], omega arith, refl))
+  heard q v d i lo hi (put b h ∷ f) l qs = takes-in lo hi refl (heard q v d i lo hi f (pokeSlot T b h l) qs)
+
+  -- ### Single operations
+
+  -- An operation that pushes a handle.
+  gives : {l : Locals} {w : World} (o : Op) (h i b : ℕ) → exec rows o nowhere (risen [] l m) ≡ pushes h (risen [] l m) → instrAt code i ≡ plain o → from ≤ i → i < end → suc i ≡ b
+      → Leads i b l w (got h (st l w))
+  gives {l} {w} o h i b f e lo hi next-is = steps (plain o) (next (risen (h ∷ []) l m)) lo hi (omega arith) e (f ∙ pushed h l) (settled (ap (λ (j : ℕ). at j (h ∷ []) l w) next-is))
+
+  -- An operation that asks a question for a value.
+  inquires : {l : Locals} {w : World} (o : Op) (q : Question) (i b : ℕ) → exec rows o nowhere (risen [] l m) ≡ ask q Push (risen [] l m) → valued (inWords T q) ≡ true → doable (inWords T q) ≡ false
+      → instrAt code i ≡ plain o → from ≤ i → i < end → suc i ≡ b → Leads i b l w (gotten (asks (findSlot T) (pokeSlot T) (inWords T q) A (st l w)))
+  inquires {l} {w} o q i b f v d e lo hi next-is =
+      let Q : ℕ → Type 0 = λ j. Leads i j l w (gotten (asks (findSlot T) (pokeSlot T) (inWords T q) A (st l w))) in
+      subst Q next-is (steps (plain o) (ask q Push (risen [] l m)) lo hi (omega arith) e f (heard q v d i lo hi (w .feed) l (inWords T q ∷ w .asked)))
+
+  -- A name of the table: the newest slot's handle, or a question.
+  loads : {l : Locals} {w : World} (b : Bytes) (x i c : ℕ) → numberOf T b ≡ Some x → instrAt code i ≡ plain (LoadNamed x) → from ≤ i → i < end → suc i ≡ c
+      → Leads i c l w (reads (findSlot T) (pokeSlot T) (findSlot T b l) b A (st l w))
+  loads {l} {w} b x i c e z lo hi next-is = rw e (go (newest x (l .live)) refl)
+    where
+      go : (o : Option ℕ) → newest x (l .live) ≡ o → Leads i c l w (reads (findSlot T) (pokeSlot T) (cellOf (slotOf o (l .live))) b A (st l w))
+      go None f = subst (λ (y : Bytes). Leads i c l w (reads (findSlot T) (pokeSlot T) None y A (st l w))) (number-found T b x e .1) (inquires (LoadNamed x) (Name x) i c (ap (λ (o : Option ℕ). named x o (risen [] l m)) f) refl refl z lo hi next-is)
+      go (Some j) f =
+          let s = newest-there x (l .live) j f in
+          let y : exec rows (LoadNamed x) nowhere (risen [] l m) ≡ pushes (s .0 .handle) (risen [] l m) = rw (f, s .1) refl in
+          rw (s .1) (gives (LoadNamed x) (s .0 .handle) i c y z lo hi next-is)
+
+  -- A conditional jump on the value of an item.
+  tests : (on : Bool) (v h i f b : ℕ) (p : Position) (σ : St Locals) (rest : Got Locals) → instrAt code i ≡ record { op = jumpOn on f; at = p } → from ≤ i → i < end
+      → Leads f b (σ .env) (σ .world) (got h σ) → Leads (suc i) b (σ .env) (σ .world) rest
+      → Runs (Done b (decides (truth v) (truthOn on) h p σ rest)) (at i (v ∷ []) (σ .env) (σ .world))
+  tests on v h i f b p σ rest e lo hi hit on-to =
+      steps (record { op = jumpOn on f; at = p }) (branch on f p v (risen [] (σ .env) m)) lo hi (omega arith) e (elim on as (λ t. exec rows (jumpOn t f) p (risen (v ∷ []) (σ .env) m) ≡ branch t f p v (risen [] (σ .env) m)) [ true ↦ refl | false ↦ refl ]) (go on (eqb v 1) (eqb v 2))
+    where
+      go : (on t u : Bool)
+          → let y = cond t (cond on (next (risen [] (σ .env) m)) (goto f (risen [] (σ .env) m))) (cond u (cond on (goto f (risen [] (σ .env) m)) (next (risen [] (σ .env) m))) (fault 3 p (risen [] (σ .env) m))) in
+            Runs (Done b (decides (cond t fails (cond u holds neither)) (truthOn on) h p σ rest)) (conf (after y i) (noted T (after y i) (σ .world)))
+      go true true u = on-to
+      go false true u = hit
+      go true false true = hit
+      go false false true = on-to
+      go true false false = settled ([], omega arith, ap (conf (landed (catches 3 p (risen [] (σ .env) m)))) (noted-landed T (catches 3 p (risen [] (σ .env) m)) (σ .world)))
+      go false false false = settled ([], omega arith, ap (conf (landed (catches 3 p (risen [] (σ .env) m)))) (noted-landed T (catches 3 p (risen [] (σ .env) m)) (σ .world)))
+
+  -- ### Readings
+
+  -- A part that goes on with the value of what stands before it.
+  bound : {c : Conf} {a b : ℕ} (g : Got Locals) (k : ℕ → St Locals → Got Locals) → Runs (Done a g) c
+      → ((v : ℕ) (σ : St Locals) → Runs (Done b (k v σ)) (at a (v ∷ []) (σ .env) (σ .world))) → Runs (Done b (bindGot g k)) c
+  bound {a} {b} g k t f = onto t (λ c q. go g c (q .is))
+    where
+      go : (g : Got Locals) (c : Conf) → Exit a g c → Runs (Done b (bindGot g k)) c
+      go (got v σ) c q = subst (λ (d : Conf). Runs (Done b (k v σ)) d) (sym q) (f v σ)
+      go (bad h p σ) c q = settled q
+      go (dry r B σ) c q = settled q
