@@ -2,7 +2,7 @@
 -- reading comes to.
 use mathlib.Core.Path.{_≡_, refl, sym, ap, subst, _∙_}
 use mathlib.Core.List.{List, [], _∷_, _++_}
-use mathlib.Core.Bool.{Bool, true, false, cond}
+use mathlib.Core.Bool.{Bool, true, false, cond, not}
 use Prim.Native.Nat.{ℕ, zero, suc, _+_, _≤_, _<_}
 use native.Mathlib.Omega.{arith}
 use lib.ListN.{length, length-append}
@@ -26,7 +26,7 @@ use Rattle.meaning.specs.Throws.{catches}
 use Rattle.meaning.specs.Calls.{State, State.ready, State.waits, State.ended, State.halted, instrAt, landed, after, slotOf}
 use Rattle.meaning.specs.Reading.{Bytes, Ask, Ask.expression, Ask.name as asksName, valued, doable, Event, Event.value, Event.done, Event.fault, Event.put, Around, World, St, st, Truth, Truth.yes as holds, Truth.no as fails, Truth.neither, truth, Got, Got.got, Got.bad, Got.dry, gotten, bindGot, decides, hears, asks, reads, Reading, Reading.unit, Reading.yes, Reading.opaque, Reading.no, Reading.name, Reading.all, Reading.any, Items, Items.end, Items.item, reading, goesThrough}
 use Rattle.meaning.specs.Fed.{Tables, nameAt, numberOf, inWords, cellOf, cellAt, findSlot, pokeSlot, Conf, conf, noted, move, Comes, Comes.here, Comes.then}
-use Rattle.meaning.specs.Writer.{shift, Holds, risen, Inside, Settles}
+use Rattle.meaning.specs.Writer.{shiftOp, shift, Holds, risen, Inside, Settles}
 use Rattle.meaning.specs.Writers.{plain, size, sizeItems, load, written, writtenItems}
 use Rattle.meaning.proofs.Found.{number-found, newest-there}
 
@@ -82,16 +82,25 @@ abbrev pub jumpOn : Bool → ℕ → Op
 jumpOn true = JumpIfTrue
 jumpOn false = JumpIfFalse
 
+-- What decides such a list, and the handle of that.
 abbrev pub truthOn : Bool → Truth
 truthOn true = holds
 truthOn false = fails
 
+abbrev pub handleOn : Bool → ℕ
+handleOn true = 2
+handleOn false = 1
+
+shift-jump : (from f g : ℕ) (on : Bool) → g ≡ from + f → shiftOp from (jumpOn on f) ≡ jumpOn on g
+shift-jump from f g true e = ap JumpIfTrue (sym e)
+shift-jump from f g false e = ap JumpIfFalse (sym e)
+
 -- ## Playing
 
--- A segment stands from place `from` on up to before `end`; it plays from the machine m, with room for a value more.
-module _ (code : List Instr) (rows : List Row) (T : Tables) (from end : ℕ) (m : Mach) (room : length (m .values) + 1 ≤ 64) (A : Around) where
+-- A segment stands from place `from` on up to before `to`; it plays from the machine m, with room for a value more.
+module _ (code : List Instr) (rows : List Row) (T : Tables) (from to : ℕ) (m : Mach) (room : length (m .values) + 1 ≤ 64) (A : Around) where
   abbrev Runs : (Conf → Type 0) → Conf → Type 0
-  Runs Q c = Comes code rows T (λ d. Inside from end (length (m .values) + 1) (d .state)) Q c
+  Runs Q c = Comes code rows T (λ d. Inside from to (length (m .values) + 1) (d .state)) Q c
 
   -- At a place of the segment, with the values vs above those of m.
   abbrev at : ℕ → List ℕ → Locals → World → Conf
@@ -102,7 +111,7 @@ module _ (code : List Instr) (rows : List Row) (T : Tables) (from end : ℕ) (m 
   Exit b (got v σ) c = c ≡ at b (v ∷ []) (σ .env) (σ .world)
   Exit b (bad h p σ) c = (vs : List ℕ) × (length vs ≤ 1) × (c ≡ conf (landed (catches h p (risen vs (σ .env) m))) (σ .world))
   Exit b (dry q B σ) c =
-      (k : Question) × (u : Purpose) × (i : ℕ) × (vs : List ℕ) × (inWords T k ≡ q) × (from ≤ i) × (i < end) × (length vs ≤ 1)
+      (k : Question) × (u : Purpose) × (i : ℕ) × (vs : List ℕ) × (inWords T k ≡ q) × (from ≤ i) × (i < to) × (length vs ≤ 1)
       × (c ≡ conf (waits k u i (risen vs (σ .env) m)) (σ .world))
 
   record Done (b : ℕ) (g : Got Locals) (c : Conf) : Type 0 where
@@ -120,7 +129,7 @@ module _ (code : List Instr) (rows : List Row) (T : Tables) (from end : ℕ) (m 
   Leads a b l w g = Runs (Done b g) (at a [] l w)
 
   -- One operation at a place of the segment.
-  steps : {Q : Conf → Type 0} {i : ℕ} {n : Mach} {w : World} (x : Instr) (y : Effect) → from ≤ i → i < end → length (n .values) ≤ length (m .values) + 1
+  steps : {Q : Conf → Type 0} {i : ℕ} {n : Mach} {w : World} (x : Instr) (y : Effect) → from ≤ i → i < to → length (n .values) ≤ length (m .values) + 1
       → instrAt code i ≡ x → exec rows (x .op) (x .at) n ≡ y → Runs Q (conf (after y i) (noted T (after y i) w)) → Runs Q (conf (ready i n) w)
   steps {Q} {i} {n} {w} x y lo hi low e f t =
       then (lo, hi, low) (ap (λ (z : Instr). Some (conf (after (exec rows (z .op) (z .at) n) i) (noted T (after (exec rows (z .op) (z .at) n) i) w))) e ∙ ap (λ (z : Effect). Some (conf (after z i) (noted T (after z i) w))) f) t
@@ -132,12 +141,12 @@ module _ (code : List Instr) (rows : List Row) (T : Tables) (from end : ℕ) (m 
   -- ### Questions
 
   -- While a question waits, what is fed is taken.
-  takes-in : {Q : Conf → Type 0} {q : Question} {i : ℕ} {l : Locals} {w : World} {c : Conf} → from ≤ i → i < end
+  takes-in : {Q : Conf → Type 0} {q : Question} {i : ℕ} {l : Locals} {w : World} {c : Conf} → from ≤ i → i < to
       → move code rows T (conf (waits q Push i (risen [] l m)) w) ≡ Some c → Runs Q c → Runs Q (conf (waits q Push i (risen [] l m)) w)
   takes-in lo hi e t = then (lo, hi, omega arith) e t
 
   -- A question that values answer waits at place i: the feed decides what comes of it.
-  heard : (q : Question) → valued (inWords T q) ≡ true → doable (inWords T q) ≡ false → (i : ℕ) → from ≤ i → i < end → (f : List Event) (l : Locals) (qs : List Ask)
+  heard : (q : Question) → valued (inWords T q) ≡ true → doable (inWords T q) ≡ false → (i : ℕ) → from ≤ i → i < to → (f : List Event) (l : Locals) (qs : List Ask)
       → Runs (Done (suc i) (gotten (hears (findSlot T) (pokeSlot T) (inWords T q) A f l qs))) (conf (waits q Push i (risen [] l m)) (record { feed = f; asked = qs }))
   heard q v d i lo hi [] l qs = settled (q, Push, i, [], refl, lo, hi, omega arith, refl)
   heard q v d i lo hi (value h ∷ f) l qs = rw v (takes-in lo hi (ap (λ (y : Effect). Some (conf (after y i) (record { feed = f; asked = qs }))) (pushed h l)) (settled refl))
@@ -148,19 +157,19 @@ module _ (code : List Instr) (rows : List Row) (T : Tables) (from end : ℕ) (m 
   -- ### Single operations
 
   -- An operation that pushes a handle.
-  gives : {l : Locals} {w : World} (o : Op) (h i b : ℕ) → exec rows o nowhere (risen [] l m) ≡ pushes h (risen [] l m) → instrAt code i ≡ plain o → from ≤ i → i < end → suc i ≡ b
+  gives : {l : Locals} {w : World} (o : Op) (h i b : ℕ) → exec rows o nowhere (risen [] l m) ≡ pushes h (risen [] l m) → instrAt code i ≡ plain o → from ≤ i → i < to → suc i ≡ b
       → Leads i b l w (got h (st l w))
   gives {l} {w} o h i b f e lo hi next-is = steps (plain o) (next (risen (h ∷ []) l m)) lo hi (omega arith) e (f ∙ pushed h l) (settled (ap (λ (j : ℕ). at j (h ∷ []) l w) next-is))
 
   -- An operation that asks a question for a value.
   inquires : {l : Locals} {w : World} (o : Op) (q : Question) (i b : ℕ) → exec rows o nowhere (risen [] l m) ≡ ask q Push (risen [] l m) → valued (inWords T q) ≡ true → doable (inWords T q) ≡ false
-      → instrAt code i ≡ plain o → from ≤ i → i < end → suc i ≡ b → Leads i b l w (gotten (asks (findSlot T) (pokeSlot T) (inWords T q) A (st l w)))
+      → instrAt code i ≡ plain o → from ≤ i → i < to → suc i ≡ b → Leads i b l w (gotten (asks (findSlot T) (pokeSlot T) (inWords T q) A (st l w)))
   inquires {l} {w} o q i b f v d e lo hi next-is =
       let Q : ℕ → Type 0 = λ j. Leads i j l w (gotten (asks (findSlot T) (pokeSlot T) (inWords T q) A (st l w))) in
       subst Q next-is (steps (plain o) (ask q Push (risen [] l m)) lo hi (omega arith) e f (heard q v d i lo hi (w .feed) l (inWords T q ∷ w .asked)))
 
   -- A name of the table: the newest slot's handle, or a question.
-  loads : {l : Locals} {w : World} (b : Bytes) (x i c : ℕ) → numberOf T b ≡ Some x → instrAt code i ≡ plain (LoadNamed x) → from ≤ i → i < end → suc i ≡ c
+  loads : {l : Locals} {w : World} (b : Bytes) (x i c : ℕ) → numberOf T b ≡ Some x → instrAt code i ≡ plain (LoadNamed x) → from ≤ i → i < to → suc i ≡ c
       → Leads i c l w (reads (findSlot T) (pokeSlot T) (findSlot T b l) b A (st l w))
   loads {l} {w} b x i c e z lo hi next-is = rw e (go (newest x (l .live)) refl)
     where
@@ -172,7 +181,7 @@ module _ (code : List Instr) (rows : List Row) (T : Tables) (from end : ℕ) (m 
           rw (s .1) (gives (LoadNamed x) (s .0 .handle) i c y z lo hi next-is)
 
   -- A conditional jump on the value of an item.
-  tests : (on : Bool) (v h i f b : ℕ) (p : Position) (σ : St Locals) (rest : Got Locals) → instrAt code i ≡ record { op = jumpOn on f; at = p } → from ≤ i → i < end
+  tests : (on : Bool) (v h i f b : ℕ) (p : Position) (σ : St Locals) (rest : Got Locals) → instrAt code i ≡ record { op = jumpOn on f; at = p } → from ≤ i → i < to
       → Leads f b (σ .env) (σ .world) (got h σ) → Leads (suc i) b (σ .env) (σ .world) rest
       → Runs (Done b (decides (truth v) (truthOn on) h p σ rest)) (at i (v ∷ []) (σ .env) (σ .world))
   tests on v h i f b p σ rest e lo hi hit on-to =
@@ -199,3 +208,59 @@ module _ (code : List Instr) (rows : List Row) (T : Tables) (from end : ℕ) (m 
       go (got v σ) c q = subst (λ (d : Conf). Runs (Done b (k v σ)) d) (sym q) (f v σ)
       go (bad h p σ) c q = settled q
       go (dry r B σ) c q = settled q
+
+  -- A truth value as an operation of its own.
+  truths : {l : Locals} {w : World} (on : Bool) (i b : ℕ) → instrAt code i ≡ plain (BoolOp on) → from ≤ i → i < to → suc i ≡ b → Leads i b l w (got (handleOn on) (st l w))
+  truths true i b e lo hi next-is = gives (BoolOp true) 2 i b refl e lo hi next-is
+  truths false i b e lo hi next-is = gives (BoolOp false) 1 i b refl e lo hi next-is
+
+  -- The end of a list, at place c: the handle of a list that nothing decided, a jump past, and the handle of one that
+  -- something decided.
+  list-end : (on : Bool) (t c b : ℕ) → Holds code from c (plain (BoolOp (not on)) ∷ plain (Jump t) ∷ plain (BoolOp on) ∷ []) → b ≡ from + t → b ≡ c + 3 → from ≤ c → b ≤ to
+      → ((l : Locals) (w : World) → Leads (suc (suc c)) b l w (got (handleOn on) (st l w))) × ((l : Locals) (w : World) → Leads c b l w (got (handleOn (not on)) (st l w)))
+  list-end on t c b h e g lo hi = (λ l w. truths on (suc (suc c)) b (h .1 .1 .0) (omega arith) (omega arith) (omega arith), λ l w. undecided l w)
+    where
+      undecided : (l : Locals) (w : World) → Leads c b l w (got (handleOn (not on)) (st l w))
+      undecided l w =
+          let v = handleOn (not on) in
+          onto (truths {l = l} {w = w} (not on) c (suc c) (h .0) lo (omega arith) refl)
+              (λ x q. subst (λ (y : Conf). Runs (Done b (got v (st l w))) y) (sym (q .is)) (steps (plain (Jump b)) (goto b (risen (v ∷ []) l m)) (omega arith) (omega arith) (omega arith) (h .1 .0 ∙ ap (λ (k : ℕ). plain (Jump k)) (sym e)) refl (settled refl)))
+
+  -- A reading that stands from a up to before b; the items of a list that stand from a up to before c, where f is the
+  -- place for what decides the list.
+  mutual
+    plays : (exprs : ℕ) (r : Reading) (d a b : ℕ) → Fine T exprs r → Holds code from a (written T r d) → a ≡ from + d → b ≡ a + size r → b ≤ to
+        → (l : Locals) (w : World) → Leads a b l w (reading (findSlot T) (pokeSlot T) r A (st l w))
+    plays exprs unit d a b z h e g hi l w = gives UnitOp 0 a b refl (h .0) (omega arith) (omega arith) (omega arith)
+    plays exprs yes d a b z h e g hi l w = truths true a b (h .0) (omega arith) (omega arith) (omega arith)
+    plays exprs (opaque x) d a b z h e g hi l w = inquires (EvalExpr x) (Expression x) a b refl refl refl (h .0) (omega arith) (omega arith) (omega arith)
+    plays exprs no d a b z h e g hi l w = truths false a b (h .0) (omega arith) (omega arith) (omega arith)
+    plays exprs (name n) d a b z h e g hi l w = loads n (z .0) a b (z .1) (h .0 ∙ ap (λ (o : Option ℕ). shift from (load o)) (z .1)) (omega arith) (omega arith) (omega arith)
+    plays exprs (all is) d a b z h e g hi l w =
+        let t = sizeItems is + d in
+        let c = a + sizeItems is in
+        let s = length-items T is JumpIfFalse (suc (suc t)) d in
+        let hs = parts code from (writtenItems T is JumpIfFalse (suc (suc t)) d) (plain (BoolOp (not false)) ∷ plain (Jump (suc (suc (suc t)))) ∷ plain (BoolOp false) ∷ []) a c (omega arith) h in
+        let ends = list-end false (suc (suc (suc t))) c b (hs .1) (omega arith) (omega arith) (omega arith) hi in
+        plays-items exprs is false (suc (suc t)) d a c (suc (suc c)) b z (hs .0) e (omega arith) refl (omega arith) (ends .0) (ends .1) l w
+    plays exprs (any is) d a b z h e g hi l w =
+        let t = sizeItems is + d in
+        let c = a + sizeItems is in
+        let s = length-items T is JumpIfTrue (suc (suc t)) d in
+        let hs = parts code from (writtenItems T is JumpIfTrue (suc (suc t)) d) (plain (BoolOp (not true)) ∷ plain (Jump (suc (suc (suc t)))) ∷ plain (BoolOp true) ∷ []) a c (omega arith) h in
+        let ends = list-end true (suc (suc (suc t))) c b (hs .1) (omega arith) (omega arith) (omega arith) hi in
+        plays-items exprs is true (suc (suc t)) d a c (suc (suc c)) b z (hs .0) e (omega arith) refl (omega arith) (ends .0) (ends .1) l w
+
+    plays-items : (exprs : ℕ) (is : Items) (on : Bool) (t d a c f b : ℕ) → FineItems T exprs is → Holds code from a (writtenItems T is (jumpOn on) t d) → a ≡ from + d → f ≡ from + t → c ≡ a + sizeItems is → c ≤ to
+        → ((l : Locals) (w : World) → Leads f b l w (got (handleOn on) (st l w))) → ((l : Locals) (w : World) → Leads c b l w (got (handleOn (not on)) (st l w)))
+        → (l : Locals) (w : World) → Leads a b l w (goesThrough (findSlot T) (pokeSlot T) is (truthOn on) (handleOn on) (handleOn (not on)) A (st l w))
+    plays-items exprs end on t d a c f b z h e k g hi hit miss l w = let q : c ≡ a = omega arith in subst (λ (i : ℕ). Leads i b l w (got (handleOn (not on)) (st l w))) q (miss l w)
+    plays-items exprs (item p r is) on t d a c f b z h e k g hi hit miss l w =
+        let x = a + size r in
+        let s = length-written T r d in
+        let hs = parts code from (written T r d) (record { op = jumpOn on t; at = p } ∷ writtenItems T is (jumpOn on) t (suc (size r + d))) a x (omega arith) h in
+        bound (reading (findSlot T) (pokeSlot T) r A (st l w)) (λ v σ. decides (truth v) (truthOn on) (handleOn on) p σ (goesThrough (findSlot T) (pokeSlot T) is (truthOn on) (handleOn on) (handleOn (not on)) A σ))
+            (plays exprs r d a x (z .0) (hs .0) e refl (omega arith) l w)
+            (λ v σ. tests on v (handleOn on) x f b p σ (goesThrough (findSlot T) (pokeSlot T) is (truthOn on) (handleOn on) (handleOn (not on)) A σ)
+                (hs .1 .0 ∙ ap (λ (o : Op). record { op = o; at = p }) (shift-jump from t f on k)) (omega arith) (omega arith) (hit (σ .env) (σ .world))
+                (plays-items exprs is on t (suc (size r + d)) (suc x) c f b (z .1) (hs .1 .1) (omega arith) k (omega arith) hi hit miss (σ .env) (σ .world)))
