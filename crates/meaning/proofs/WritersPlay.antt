@@ -26,7 +26,7 @@ use Rattle.meaning.specs.Throws.{catches}
 use Rattle.meaning.specs.Calls.{State, State.ready, State.waits, State.ended, State.halted, instrAt, landed, after, slotOf}
 use Rattle.meaning.specs.Reading.{Bytes, Ask, Ask.expression, Ask.name as asksName, valued, doable, Event, Event.value, Event.done, Event.fault, Event.put, Around, World, St, st, Truth, Truth.yes as holds, Truth.no as fails, Truth.neither, truth, Got, Got.got, Got.bad, Got.dry, gotten, bindGot, decides, hears, asks, reads, Reading, Reading.unit, Reading.yes, Reading.opaque, Reading.no, Reading.name, Reading.all, Reading.any, Items, Items.end, Items.item, reading, goesThrough}
 use Rattle.meaning.specs.Fed.{Tables, nameAt, numberOf, inWords, cellOf, cellAt, findSlot, pokeSlot, Conf, conf, noted, move, Comes, Comes.here, Comes.then}
-use Rattle.meaning.specs.Writer.{shiftOp, shift, Holds, risen, Inside, Settles}
+use Rattle.meaning.specs.Writer.{shiftOp, shift, Holds, risen, Inside, Settles, Plays}
 use Rattle.meaning.specs.Writers.{plain, size, sizeItems, load, written, writtenItems}
 use Rattle.meaning.proofs.Found.{number-found, newest-there}
 
@@ -226,8 +226,27 @@ module _ (code : List Instr) (rows : List Row) (T : Tables) (from to : ℕ) (m :
           onto (truths {l = l} {w = w} (not on) c (suc c) (h .0) lo (omega arith) refl)
               (λ x q. subst (λ (y : Conf). Runs (Done b (got v (st l w))) y) (sym (q .is)) (steps (plain (Jump b)) (goto b (risen (v ∷ []) l m)) (omega arith) (omega arith) (omega arith) (h .1 .0 ∙ ap (λ (k : ℕ). plain (Jump k)) (sym e)) refl (settled refl)))
 
-  -- A reading that stands from a up to before b; the items of a list that stand from a up to before c, where f is the
-  -- place for what decides the list.
+  -- The items of a list play, from a up to before c, where f is the place for what decides the list.
+  abbrev ItemsPlay : Items → Bool → Type 0
+  ItemsPlay is on =
+      (t d a c f b : ℕ) → Holds code from a (writtenItems T is (jumpOn on) t d) → a ≡ from + d → f ≡ from + t → c ≡ a + sizeItems is → c ≤ to
+      → ((l : Locals) (w : World) → Leads f b l w (got (handleOn on) (st l w))) → ((l : Locals) (w : World) → Leads c b l w (got (handleOn (not on)) (st l w)))
+      → (l : Locals) (w : World) → Leads a b l w (goesThrough (findSlot T) (pokeSlot T) is (truthOn on) (handleOn on) (handleOn (not on)) A (st l w))
+
+  -- A list whose items play.
+  list : (is : Items) (on : Bool) (d a b : ℕ) → ItemsPlay is on
+      → Holds code from a (writtenItems T is (jumpOn on) (suc (suc (sizeItems is + d))) d ++ (plain (BoolOp (not on)) ∷ plain (Jump (suc (suc (suc (sizeItems is + d))))) ∷ plain (BoolOp on) ∷ []))
+      → a ≡ from + d → b ≡ a + suc (suc (suc (sizeItems is))) → b ≤ to
+      → (l : Locals) (w : World) → Leads a b l w (goesThrough (findSlot T) (pokeSlot T) is (truthOn on) (handleOn on) (handleOn (not on)) A (st l w))
+  list is on d a b items h e g hi l w =
+      let t = sizeItems is + d in
+      let c = a + sizeItems is in
+      let s = length-items T is (jumpOn on) (suc (suc t)) d in
+      let hs = parts code from (writtenItems T is (jumpOn on) (suc (suc t)) d) (plain (BoolOp (not on)) ∷ plain (Jump (suc (suc (suc t)))) ∷ plain (BoolOp on) ∷ []) a c (omega arith) h in
+      let ends = list-end on (suc (suc (suc t))) c b (hs .1) (omega arith) (omega arith) (omega arith) hi in
+      items (suc (suc t)) d a c (suc (suc c)) b (hs .0) e (omega arith) refl (omega arith) (ends .0) (ends .1) l w
+
+  -- A reading that stands from a up to before b plays, and so do items.
   mutual
     plays : (exprs : ℕ) (r : Reading) (d a b : ℕ) → Fine T exprs r → Holds code from a (written T r d) → a ≡ from + d → b ≡ a + size r → b ≤ to
         → (l : Locals) (w : World) → Leads a b l w (reading (findSlot T) (pokeSlot T) r A (st l w))
@@ -236,26 +255,12 @@ module _ (code : List Instr) (rows : List Row) (T : Tables) (from to : ℕ) (m :
     plays exprs (opaque x) d a b z h e g hi l w = inquires (EvalExpr x) (Expression x) a b refl refl refl (h .0) (omega arith) (omega arith) (omega arith)
     plays exprs no d a b z h e g hi l w = truths false a b (h .0) (omega arith) (omega arith) (omega arith)
     plays exprs (name n) d a b z h e g hi l w = loads n (z .0) a b (z .1) (h .0 ∙ ap (λ (o : Option ℕ). shift from (load o)) (z .1)) (omega arith) (omega arith) (omega arith)
-    plays exprs (all is) d a b z h e g hi l w =
-        let t = sizeItems is + d in
-        let c = a + sizeItems is in
-        let s = length-items T is JumpIfFalse (suc (suc t)) d in
-        let hs = parts code from (writtenItems T is JumpIfFalse (suc (suc t)) d) (plain (BoolOp (not false)) ∷ plain (Jump (suc (suc (suc t)))) ∷ plain (BoolOp false) ∷ []) a c (omega arith) h in
-        let ends = list-end false (suc (suc (suc t))) c b (hs .1) (omega arith) (omega arith) (omega arith) hi in
-        plays-items exprs is false (suc (suc t)) d a c (suc (suc c)) b z (hs .0) e (omega arith) refl (omega arith) (ends .0) (ends .1) l w
-    plays exprs (any is) d a b z h e g hi l w =
-        let t = sizeItems is + d in
-        let c = a + sizeItems is in
-        let s = length-items T is JumpIfTrue (suc (suc t)) d in
-        let hs = parts code from (writtenItems T is JumpIfTrue (suc (suc t)) d) (plain (BoolOp (not true)) ∷ plain (Jump (suc (suc (suc t)))) ∷ plain (BoolOp true) ∷ []) a c (omega arith) h in
-        let ends = list-end true (suc (suc (suc t))) c b (hs .1) (omega arith) (omega arith) (omega arith) hi in
-        plays-items exprs is true (suc (suc t)) d a c (suc (suc c)) b z (hs .0) e (omega arith) refl (omega arith) (ends .0) (ends .1) l w
+    plays exprs (all is) d a b z h e g hi l w = list is false d a b (plays-items exprs is false z) h e g hi l w
+    plays exprs (any is) d a b z h e g hi l w = list is true d a b (plays-items exprs is true z) h e g hi l w
 
-    plays-items : (exprs : ℕ) (is : Items) (on : Bool) (t d a c f b : ℕ) → FineItems T exprs is → Holds code from a (writtenItems T is (jumpOn on) t d) → a ≡ from + d → f ≡ from + t → c ≡ a + sizeItems is → c ≤ to
-        → ((l : Locals) (w : World) → Leads f b l w (got (handleOn on) (st l w))) → ((l : Locals) (w : World) → Leads c b l w (got (handleOn (not on)) (st l w)))
-        → (l : Locals) (w : World) → Leads a b l w (goesThrough (findSlot T) (pokeSlot T) is (truthOn on) (handleOn on) (handleOn (not on)) A (st l w))
-    plays-items exprs end on t d a c f b z h e k g hi hit miss l w = let q : c ≡ a = omega arith in subst (λ (i : ℕ). Leads i b l w (got (handleOn (not on)) (st l w))) q (miss l w)
-    plays-items exprs (item p r is) on t d a c f b z h e k g hi hit miss l w =
+    plays-items : (exprs : ℕ) (is : Items) (on : Bool) → FineItems T exprs is → ItemsPlay is on
+    plays-items exprs end on z t d a c f b h e k g hi hit miss l w = let q : c ≡ a = omega arith in subst (λ (i : ℕ). Leads i b l w (got (handleOn (not on)) (st l w))) q (miss l w)
+    plays-items exprs (item p r is) on z t d a c f b h e k g hi hit miss l w =
         let x = a + size r in
         let s = length-written T r d in
         let hs = parts code from (written T r d) (record { op = jumpOn on t; at = p } ∷ writtenItems T is (jumpOn on) t (suc (size r + d))) a x (omega arith) h in
@@ -263,4 +268,18 @@ module _ (code : List Instr) (rows : List Row) (T : Tables) (from to : ℕ) (m :
             (plays exprs r d a x (z .0) (hs .0) e refl (omega arith) l w)
             (λ v σ. tests on v (handleOn on) x f b p σ (goesThrough (findSlot T) (pokeSlot T) is (truthOn on) (handleOn on) (handleOn (not on)) A σ)
                 (hs .1 .0 ∙ ap (λ (o : Op). record { op = o; at = p }) (shift-jump from t f on k)) (omega arith) (omega arith) (hit (σ .env) (σ .world))
-                (plays-items exprs is on t (suc (size r + d)) (suc x) c f b (z .1) (hs .1 .1) (omega arith) k (omega arith) hi hit miss (σ .env) (σ .world)))
+                (plays-items exprs is on (z .1) t (suc (size r + d)) (suc x) c f b (hs .1 .1) (omega arith) k (omega arith) hi hit miss (σ .env) (σ .world)))
+
+  -- What the whole segment comes to.
+  settles : (g : Got Locals) (c : Conf) → Exit to g c → Settles T from to 1 m g c
+  settles (got v σ) c q = q
+  settles (bad h p σ) c q = q
+  settles (dry k B σ) c q = q
+
+-- A reading whose names are in the table keeps the law.
+pub written-plays : (T : Tables) (exprs : ℕ) (r : Reading) → Fine T exprs r → Plays T 1 r (written T r 0)
+written-plays T exprs r z code rows a m w A h room =
+    let b = a + length (written T r 0) in
+    let g = reading (findSlot T) (pokeSlot T) r A (st (m .slots) w) in
+    let s = length-written T r 0 in
+    onto code rows T a b m room A {Q′ = Settles T a b 1 m g} (plays code rows T a b m room A exprs r 0 a b z h (omega arith) (omega arith) (omega arith) (m .slots) w) (λ c q. here (settles code rows T a b m room A g c (q .is)))
