@@ -3,3 +3,4 @@ pub mod Layouts
 pub mod Lowered
 pub mod Found
 pub mod WritersPlay
+pub mod WritersLaw
