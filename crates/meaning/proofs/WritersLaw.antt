@@ -1,5 +1,5 @@
 -- The two writers of the base keep the writers' law.
-use mathlib.Core.Path.{_≡_, refl, ap, subst}
+use mathlib.Core.Path.{_≡_, refl}
 use mathlib.Core.List.{List, [], _∷_, _++_}
 use mathlib.Core.Bool.{Bool, true, false, cond, not, _&&_}
 use Prim.Native.Nat.{ℕ, zero, suc, _+_, _≤_, _<_}
@@ -37,8 +37,9 @@ module _ (T : Tables) (exprs len : ℕ) where
   plain-jump true t h = le-leb t len h
   plain-jump false t h = le-leb t len h
 
-  plain-end : (on off : Bool) (t : ℕ) → t ≤ len → AllPlain (plain (BoolOp off) ∷ plain (Jump t) ∷ plain (BoolOp on) ∷ [])
-  plain-end on off t h = rw (le-leb t len h) refl
+  -- A list whose items are plain.
+  plain-list : (xs : List Instr) (on : Bool) (t : ℕ) → t ≤ len → AllPlain xs → AllPlain (xs ++ (plain (BoolOp (not on)) ∷ plain (Jump t) ∷ plain (BoolOp on) ∷ []))
+  plain-list xs on t h k = plain-both xs (plain (BoolOp (not on)) ∷ plain (Jump t) ∷ plain (BoolOp on) ∷ []) k (rw (le-leb t len h) refl)
 
   plain-load : (o : Option ℕ) (x : ℕ) → o ≡ Some x → x < length (T .names) → AllPlain (load o ∷ [])
   plain-load o x e h = rw (e, lt-ltb x (length (T .names)) h) refl
@@ -53,18 +54,23 @@ module _ (T : Tables) (exprs len : ℕ) where
     plain-written (opaque e) d z h = plain-asks e (z .0) (z .1)
     plain-written no d z h = refl
     plain-written (name b) d z h = plain-load (numberOf T b) (z .0) (z .1) (number-found T b (z .0) (z .1) .0)
-    plain-written (all is) d z h = let t = sizeItems is + d in plain-both (writtenItems T is (jumpOn false) (suc (suc t)) d) (plain (BoolOp true) ∷ plain (Jump (suc (suc (suc t)))) ∷ plain (BoolOp false) ∷ []) (plain-items is false (suc (suc t)) d z (omega arith) (omega arith)) (plain-end false true (suc (suc (suc t))) (omega arith))
-    plain-written (any is) d z h = let t = sizeItems is + d in plain-both (writtenItems T is (jumpOn true) (suc (suc t)) d) (plain (BoolOp false) ∷ plain (Jump (suc (suc (suc t)))) ∷ plain (BoolOp true) ∷ []) (plain-items is true (suc (suc t)) d z (omega arith) (omega arith)) (plain-end true false (suc (suc (suc t))) (omega arith))
+    plain-written (all is) d z h =
+        let t = suc (suc (sizeItems is + d)) in
+        plain-list (writtenItems T is (jumpOn false) t d) false (suc t) (omega arith) (plain-items is false t d z (omega arith) (omega arith))
+    plain-written (any is) d z h =
+        let t = suc (suc (sizeItems is + d)) in
+        plain-list (writtenItems T is (jumpOn true) t d) true (suc t) (omega arith) (plain-items is true t d z (omega arith) (omega arith))
 
     plain-items : (is : Items) (on : Bool) (t d : ℕ) → FineItems T exprs is → t ≤ len → d + sizeItems is ≤ len → AllPlain (writtenItems T is (jumpOn on) t d)
     plain-items end on t d z k h = refl
     plain-items (item p r is) on t d z k h =
         plain-both (written T r d) (record { op = jumpOn on t; at = p } ∷ writtenItems T is (jumpOn on) t (suc (size r + d))) (plain-written r d (z .0) (omega arith))
-            (and-from (Plain (length (T .names)) exprs len (jumpOn on t)) (allPlain (length (T .names)) exprs len (writtenItems T is (jumpOn on) t (suc (size r + d)))) (plain-jump on t k) (plain-items is on t (suc (size r + d)) (z .1) k (omega arith)))
+        (and-from (Plain (length (T .names)) exprs len (jumpOn on t)) (allPlain (length (T .names)) exprs len (writtenItems T is (jumpOn on) t (suc (size r + d)))) (plain-jump on t k) (plain-items is on t (suc (size r + d)) (z .1) k (omega arith)))
 
 -- ## Readings of records are fine
 
--- The items of an expression record lie inside the table. Accepted records are so.
+-- The items of an expression record lie inside the table. Accepted records are so; in other records an item may be no
+-- record, or record 0, and a segment that asks it breaks the law.
 abbrev pub ItemsInside : Records → Type 0
 ItemsInside R = (i : ℕ) → 1 ≤ i → i < length (R .exprs) → (1 ≤ exprAt R i .end) × (exprAt R i .end ≤ length (R .exprs))
 
@@ -83,7 +89,7 @@ module _ (T : Tables) (R : Records) where
   fine-form e is lo hi h =
       let f = exprAt R e .form in
       go (nameReading (numberOf T (nameOf R (exprAt R e .label) .bytes)) (nameOf R (exprAt R e .label) .bytes) e) (fine-name (numberOf T (nameOf R (exprAt R e .label) .bytes)) (nameOf R (exprAt R e .label) .bytes) e refl (lo, hi))
-          (eqb f 1) (eqb f 2) (eqb f 4) (eqb f 5) (eqb f 6) (eqb f 7)
+      (eqb f 1) (eqb f 2) (eqb f 4) (eqb f 5) (eqb f 6) (eqb f 7)
     where
       go : (n : Reading) → FineHere n → (t u v w x y : Bool) → FineHere (cond t unit (cond u yes (cond v no (cond w n (cond x (all is) (cond y (any is) (opaque e)))))))
       go n k true u v w x y = tt

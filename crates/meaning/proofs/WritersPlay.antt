@@ -3,10 +3,10 @@
 use mathlib.Core.Path.{_≡_, refl, sym, ap, subst, _∙_}
 use mathlib.Core.List.{List, [], _∷_, _++_}
 use mathlib.Core.Bool.{Bool, true, false, cond, not}
-use Prim.Native.Nat.{ℕ, zero, suc, _+_, _≤_, _<_}
+use Prim.Native.Nat.{ℕ, suc, _+_, _≤_, _<_}
 use native.Mathlib.Omega.{arith}
 use lib.ListN.{length, length-append}
-use lib.Dec.{eqb, ltb}
+use lib.Dec.{eqb}
 use borrow.Author.Tests.{lt-ltb}
 use Rattle.std.specs.declared.option.Option.{Option}
 use Rattle.std.specs.declared.option.Option.the-variants.{Some, None}
@@ -16,16 +16,15 @@ use Rattle.code.specs.declared.ops.Op.{Op}
 use Rattle.code.specs.declared.ops.Op.the-variants.{Unit as UnitOp, Bool as BoolOp, LoadNamed, Jump, JumpIfTrue, JumpIfFalse, EvalExpr}
 use Rattle.code.specs.declared.ops.Instr.{Instr}
 use Rattle.code.specs.declared.ops.Row.{Row}
-use Rattle.code.specs.declared.talk.Slot.{Slot}
 use Rattle.code.specs.declared.talk.Question.{Question}
 use Rattle.code.specs.declared.talk.Question.the-variants.{Expression, Name}
 use Rattle.code.specs.declared.talk.Purpose.{Purpose}
 use Rattle.code.specs.declared.talk.Purpose.the-variants.{Push}
-use Rattle.meaning.specs.Machine.{Locals, Mach, Effect, Effect.next, Effect.goto, Effect.ask, Effect.fault, Effect.give, Effect.stuck, slotAt, newest, pushes, named, branch, exec}
+use Rattle.meaning.specs.Machine.{Locals, Mach, Effect, Effect.next, Effect.goto, Effect.ask, Effect.fault, Effect.give, Effect.stuck, newest, pushes, named, branch, exec}
 use Rattle.meaning.specs.Throws.{catches}
-use Rattle.meaning.specs.Calls.{State, State.ready, State.waits, State.ended, State.halted, instrAt, landed, after, slotOf}
-use Rattle.meaning.specs.Reading.{Bytes, Ask, Ask.expression, Ask.name as asksName, valued, doable, Event, Event.value, Event.done, Event.fault, Event.put, Around, World, St, st, Truth, Truth.yes as holds, Truth.no as fails, Truth.neither, truth, Got, Got.got, Got.bad, Got.dry, gotten, bindGot, decides, hears, asks, reads, Reading, Reading.unit, Reading.yes, Reading.opaque, Reading.no, Reading.name, Reading.all, Reading.any, Items, Items.end, Items.item, reading, goesThrough}
-use Rattle.meaning.specs.Fed.{Tables, nameAt, numberOf, inWords, cellOf, cellAt, findSlot, pokeSlot, Conf, conf, noted, move, Comes, Comes.here, Comes.then}
+use Rattle.meaning.specs.Calls.{State.ready, State.waits, instrAt, landed, after, slotOf}
+use Rattle.meaning.specs.Reading.{Bytes, Ask, valued, doable, Event, Event.value, Event.done, Event.fault, Event.put, Around, World, St, st, Truth, Truth.yes as holds, Truth.no as fails, Truth.neither, truth, Got, Got.got, Got.bad, Got.dry, gotten, bindGot, decides, hears, asks, reads, Reading, Reading.unit, Reading.yes, Reading.opaque, Reading.no, Reading.name, Reading.all, Reading.any, Items, Items.end, Items.item, reading, goesThrough}
+use Rattle.meaning.specs.Fed.{Tables, numberOf, inWords, cellOf, findSlot, pokeSlot, Conf, conf, noted, move, Comes, Comes.here, Comes.then}
 use Rattle.meaning.specs.Writer.{shiftOp, shift, Holds, risen, Inside, Settles, Plays}
 use Rattle.meaning.specs.Writers.{plain, size, sizeItems, load, written, writtenItems}
 use Rattle.meaning.proofs.Found.{number-found, newest-there}
@@ -174,7 +173,9 @@ module _ (code : List Instr) (rows : List Row) (T : Tables) (from to : ℕ) (m :
   loads {l} {w} b x i c e z lo hi next-is = rw e (go (newest x (l .live)) refl)
     where
       go : (o : Option ℕ) → newest x (l .live) ≡ o → Leads i c l w (reads (findSlot T) (pokeSlot T) (cellOf (slotOf o (l .live))) b A (st l w))
-      go None f = subst (λ (y : Bytes). Leads i c l w (reads (findSlot T) (pokeSlot T) None y A (st l w))) (number-found T b x e .1) (inquires (LoadNamed x) (Name x) i c (ap (λ (o : Option ℕ). named x o (risen [] l m)) f) refl refl z lo hi next-is)
+      go None f =
+          subst (λ (y : Bytes). Leads i c l w (reads (findSlot T) (pokeSlot T) None y A (st l w))) (number-found T b x e .1)
+          (inquires (LoadNamed x) (Name x) i c (ap (λ (o : Option ℕ). named x o (risen [] l m)) f) refl refl z lo hi next-is)
       go (Some j) f =
           let s = newest-there x (l .live) j f in
           let y : exec rows (LoadNamed x) nowhere (risen [] l m) ≡ pushes (s .0 .handle) (risen [] l m) = rw (f, s .1) refl in
@@ -189,7 +190,7 @@ module _ (code : List Instr) (rows : List Row) (T : Tables) (from to : ℕ) (m :
     where
       go : (on t u : Bool)
           → let y = cond t (cond on (next (risen [] (σ .env) m)) (goto f (risen [] (σ .env) m))) (cond u (cond on (goto f (risen [] (σ .env) m)) (next (risen [] (σ .env) m))) (fault 3 p (risen [] (σ .env) m))) in
-            Runs (Done b (decides (cond t fails (cond u holds neither)) (truthOn on) h p σ rest)) (conf (after y i) (noted T (after y i) (σ .world)))
+          Runs (Done b (decides (cond t fails (cond u holds neither)) (truthOn on) h p σ rest)) (conf (after y i) (noted T (after y i) (σ .world)))
       go true true u = on-to
       go false true u = hit
       go true false true = hit
@@ -224,7 +225,8 @@ module _ (code : List Instr) (rows : List Row) (T : Tables) (from to : ℕ) (m :
       undecided l w =
           let v = handleOn (not on) in
           onto (truths {l = l} {w = w} (not on) c (suc c) (h .0) lo (omega arith) refl)
-              (λ x q. subst (λ (y : Conf). Runs (Done b (got v (st l w))) y) (sym (q .is)) (steps (plain (Jump b)) (goto b (risen (v ∷ []) l m)) (omega arith) (omega arith) (omega arith) (h .1 .0 ∙ ap (λ (k : ℕ). plain (Jump k)) (sym e)) refl (settled refl)))
+          (λ x q. subst (λ (y : Conf). Runs (Done b (got v (st l w))) y) (sym (q .is))
+          (steps (plain (Jump b)) (goto b (risen (v ∷ []) l m)) (omega arith) (omega arith) (omega arith) (h .1 .0 ∙ ap (λ (k : ℕ). plain (Jump k)) (sym e)) refl (settled refl)))
 
   -- The items of a list play, from a up to before c, where f is the place for what decides the list.
   abbrev ItemsPlay : Items → Bool → Type 0
@@ -265,10 +267,10 @@ module _ (code : List Instr) (rows : List Row) (T : Tables) (from to : ℕ) (m :
         let s = length-written T r d in
         let hs = parts code from (written T r d) (record { op = jumpOn on t; at = p } ∷ writtenItems T is (jumpOn on) t (suc (size r + d))) a x (omega arith) h in
         bound (reading (findSlot T) (pokeSlot T) r A (st l w)) (λ v σ. decides (truth v) (truthOn on) (handleOn on) p σ (goesThrough (findSlot T) (pokeSlot T) is (truthOn on) (handleOn on) (handleOn (not on)) A σ))
-            (plays exprs r d a x (z .0) (hs .0) e refl (omega arith) l w)
-            (λ v σ. tests on v (handleOn on) x f b p σ (goesThrough (findSlot T) (pokeSlot T) is (truthOn on) (handleOn on) (handleOn (not on)) A σ)
-                (hs .1 .0 ∙ ap (λ (o : Op). record { op = o; at = p }) (shift-jump from t f on k)) (omega arith) (omega arith) (hit (σ .env) (σ .world))
-                (plays-items exprs is on (z .1) t (suc (size r + d)) (suc x) c f b (hs .1 .1) (omega arith) k (omega arith) hi hit miss (σ .env) (σ .world)))
+        (plays exprs r d a x (z .0) (hs .0) e refl (omega arith) l w)
+        (λ v σ. tests on v (handleOn on) x f b p σ (goesThrough (findSlot T) (pokeSlot T) is (truthOn on) (handleOn on) (handleOn (not on)) A σ)
+        (hs .1 .0 ∙ ap (λ (o : Op). record { op = o; at = p }) (shift-jump from t f on k)) (omega arith) (omega arith) (hit (σ .env) (σ .world))
+        (plays-items exprs is on (z .1) t (suc (size r + d)) (suc x) c f b (hs .1 .1) (omega arith) k (omega arith) hi hit miss (σ .env) (σ .world)))
 
   -- What the whole segment comes to.
   settles : (g : Got Locals) (c : Conf) → Exit to g c → Settles T from to 1 m g c
