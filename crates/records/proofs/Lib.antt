@@ -6,3 +6,4 @@ pub mod Accepted
 pub mod Nests
 pub mod Tiles
 pub mod Walks
+pub mod Blocks

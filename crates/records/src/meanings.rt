@@ -32,7 +32,7 @@ impl Kind {
     }
 
     // Has it a body?
-    pub fn has_body(self) -> bool
+    pub(crate) fn has_body(self) -> bool
         ensures { λ r. ⌜ r ≡ hasBody self ⌝ }
     {
         match self {
@@ -42,7 +42,7 @@ impl Kind {
     }
 
     // May it have a branch?
-    pub fn has_branch(self) -> bool
+    pub(crate) fn has_branch(self) -> bool
         ensures { λ r. ⌜ r ≡ hasBranch self ⌝ }
     {
         match self {
@@ -70,7 +70,7 @@ impl Form {
     }
 
     // Is it a list of items?
-    pub fn is_list(self) -> bool
+    pub(crate) fn is_list(self) -> bool
         ensures { λ r. ⌜ r ≡ isList self ⌝ }
     {
         match self {
