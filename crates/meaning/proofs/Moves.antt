@@ -144,18 +144,60 @@ module _ {P Q : Layout} {μ : ℕ → ℕ} (M : Moving P Q μ) where
         let (m, u, w, y, p, i, j, k, l, n, nm, ph, bd, po, jb, br, dr, un, en, gl) = z in
         let deeper = deeper-moved μ (c .loop) in
         let inside : (K : Ctx → Type 0) (ns : Scopes) → K (moveCtx μ (inScopes ns (inTryCode c))) → K (inScopes ns (inTryCode (moveCtx μ c)))
-            = λ K ns. subst (λ (o : Option LoopAt). K (record { loop = o; ns = ns; its = c .its; hands = suc (c .hands) })) deeper in
-        let ns : Scopes = catchScope x ∷ c .ns in
-        (μ m, μ u, μ w, μ y, μ p, μ i, μ j, μ k, μ l, n, nameAny x n c nm, M .op ph
-        , inside (λ d. B′ d (μ m) (μ u)) (c .ns) (body (inTryCode c) m u bd), M .op po, M .op jb
-        , inside (λ d. C′ d (μ p) (μ i)) ns (branch (inScopes ns (inTryCode c)) p i br)
-        , inside (λ d. Drop Q λ′ d (μ i) (μ j)) ns (dropped λ′ (inScopes ns (inTryCode c)) i j dr)
-        , unwound false (inScopes ns (inTryCode c)) (c .ns) j k un, M .op en, glue false κ c l b gl)
+        = λ K ns. subst (λ (o : Option LoopAt). K (record { loop = o; ns = ns; its = c .its; hands = suc (c .hands) })) deeper in
+        let ns : Scopes = catchScope x ∷ c .ns in (
+          μ m,
+          μ u,
+          μ w,
+          μ y,
+          μ p,
+          μ i,
+          μ j,
+          μ k,
+          μ l,
+          n,
+          nameAny x n c nm,
+          M .op ph,
+          inside (λ d. B′ d (μ m) (μ u)) (c .ns) (body (inTryCode c) m u bd),
+          M .op po,
+          M .op jb,
+          inside (λ d. C′ d (μ p) (μ i)) ns (branch (inScopes ns (inTryCode c)) p i br),
+          inside (λ d. Drop Q λ′ d (μ i) (μ j)) ns (dropped λ′ (inScopes ns (inTryCode c)) i j dr),
+          unwound false (inScopes ns (inTryCode c)) (c .ns) j k un,
+          M .op en,
+          glue false κ c l b gl,
+        )
     headMoves (for x e mark) c a b z =
         let (d, m, n, u, w, top, y, q, i, j, k, f, g, nm, rm, ex, it, un, de, ti, nx, st, bd, dr, jt, uw, gl) = z in
-        let inner = forLoop P top b v (x .bytes) c in
-        (d, μ m, μ n, μ u, μ w, μ top, μ y, μ q, μ i, μ j, μ k, μ f, μ g, M .name nm, M .room rm, M .exp ex, M .op it, M .op un, M .op de, M .op ti, M .op nx, M .op st
-        , body inner q i bd, dropped κ inner i j dr, M .op jt, M .op uw, glue false v c g b gl)
+        let inner = forLoop P top b v (x .bytes) c in (
+          d,
+          μ m,
+          μ n,
+          μ u,
+          μ w,
+          μ top,
+          μ y,
+          μ q,
+          μ i,
+          μ j,
+          μ k,
+          μ f,
+          μ g,
+          M .name nm,
+          M .room rm,
+          M .exp ex,
+          M .op it,
+          M .op un,
+          M .op de,
+          M .op ti,
+          M .op nx,
+          M .op st,
+          body inner q i bd,
+          dropped κ inner i j dr,
+          M .op jt,
+          M .op uw,
+          glue false v c g b gl,
+        )
     headMoves (if e) c a b z =
         let (m, u, w, f, x, ex, te, bd, gb, br, gc) = z in
         (μ m, μ u, μ w, μ f, μ x, M .exp ex, M .op te, body c u w bd, glue κ (κ || λ′) c w b gb, branch c f x br, glue λ′ (κ || λ′) c x b gc)
@@ -193,6 +235,11 @@ module _ {P Q : Layout} {μ : ℕ → ℕ} (M : Moving P Q μ) where
   -- A whole script's code goes along, if its start stays.
   pub scriptMoves : (k : Bool) (B : Block) → μ 0 ≡ 0 → CodeScript P k B → CodeScript Q k B
   scriptMoves k B start z =
-      let (m, n, x, li, gl, re) = z in
-      (μ m, μ n, μ x, subst (λ (i : ℕ). CodeList Q B k false topCtx i (μ m)) start (listMoves B k false topCtx 0 m li)
-      , glue (kindList false B) true (inScopes (afterList ([] ∷ []) B) topCtx) m n gl, M .op re)
+      let (m, n, x, li, gl, re) = z in (
+        μ m,
+        μ n,
+        μ x,
+        subst (λ (i : ℕ). CodeList Q B k false topCtx i (μ m)) start (listMoves B k false topCtx 0 m li),
+        glue (kindList false B) true (inScopes (afterList ([] ∷ []) B) topCtx) m n gl,
+        M .op re,
+      )

@@ -103,9 +103,10 @@ module _ (W : Writer) (rows : List Row) where
   holds : (code : List Instr) (from a : ℕ) (xs : List Instr) → ((j : ℕ) → j < length xs → instrAt code (a + j) ≡ instrAt (shiftAll W rows from xs) j) → Holds code from a xs
   holds code from a [] at = tt
   holds code from a (x ∷ xs) at =
-      let first : a ≡ a + 0 = omega arith in
-      (ap (instrAt code) first ∙ at 0 (omega arith)
-      , holds code from (suc a) xs (λ j h. let next : suc a + j ≡ a + suc j = omega arith in ap (instrAt code) next ∙ at (suc j) (omega arith)))
+      let first : a ≡ a + 0 = omega arith in (
+        ap (instrAt code) first ∙ at 0 (omega arith),
+        holds code from (suc a) xs (λ j h. let next : suc a + j ≡ a + suc j = omega arith in ap (instrAt code) next ∙ at (suc j) (omega arith)),
+      )
 
   -- ## Heights
 
@@ -150,19 +151,24 @@ module _ (W : Writer) (rows : List Row) where
         → Moving (lowLayout code rows T deepest hs) (setLayout (setCode W rows code) rows T W room H outside) μ
     moving T deepest room known fits = record {
       op = λ {o} {p} {h} {a} {b} z.
-        let (below, is, plain, next, high) = z in
-        let bare : exprOf rows (instrAt code a .op) ≡ None = ap (λ (x : Instr). exprOf rows (x .op)) is ∙ plain in
-        let wide : width W rows (instrAt code a) ≡ 1 = ap (widthOf W rows) bare in
-        (code-at a 0 (μ a) None below bare (omega arith) (omega arith) ∙ ap (λ (x : Instr). record { op = moveOp μ (x .op); at = x .at }) is
-        , omega (arith, place-suc code a below, ap μ next), ap heightOr (alone a below bare) ∙ high);
+          let (below, is, plain, next, high) = z in
+          let bare : exprOf rows (instrAt code a .op) ≡ None = ap (λ (x : Instr). exprOf rows (x .op)) is ∙ plain in
+          let wide : width W rows (instrAt code a) ≡ 1 = ap (widthOf W rows) bare in (
+            code-at a 0 (μ a) None below bare (omega arith) (omega arith) ∙ ap (λ (x : Instr). record { op = moveOp μ (x .op); at = x .at }) is,
+            omega (arith, place-suc code a below, ap μ next),
+            ap heightOr (alone a below bare) ∙ high,
+          );
       exp = λ {e} {a} {b} z.
-        let (r, below, is, works, next) = z in
-        let some : exprOf rows (instrAt code a .op) ≡ Some e = ap (exprOf rows) is ∙ works in
-        let wide : width W rows (instrAt code a) ≡ length (W .segment e) = ap (widthOf W rows) some in
-        let ends : μ a + length (W .segment e) ≡ μ b = omega (arith, place-suc code a below, ap μ next) in
-        (known a e below some, holds (setCode W rows code) (μ a) (μ a) (W .segment e) (λ j h. code-at a j (μ a + j) (Some e) below some h refl), ends
-        , λ i from to. let h : i - μ a < length (W .segment e) = omega arith in
-            ap outsideOr (mark-at a (i - μ a) i (Some e) below some h (omega arith) ∙ getD-replicate (length (W .segment e)) (i - μ a) None None h));
+          let (r, below, is, works, next) = z in
+          let some : exprOf rows (instrAt code a .op) ≡ Some e = ap (exprOf rows) is ∙ works in
+          let wide : width W rows (instrAt code a) ≡ length (W .segment e) = ap (widthOf W rows) some in
+          let ends : μ a + length (W .segment e) ≡ μ b = omega (arith, place-suc code a below, ap μ next) in (
+            known a e below some,
+            holds (setCode W rows code) (μ a) (μ a) (W .segment e) (λ j h. code-at a j (μ a + j) (Some e) below some h refl),
+            ends,
+            λ i from to. let h : i - μ a < length (W .segment e) = omega arith in
+                ap outsideOr (mark-at a (i - μ a) i (Some e) below some h (omega arith) ∙ getD-replicate (length (W .segment e)) (i - μ a) None None h),
+          );
       name = λ {x} {b} z. z;
       oper = λ {r} {s} z. z;
       row = λ {r} {i} z. z;

@@ -14,3 +14,4 @@ pub mod Compiled
 pub mod Agreement
 pub mod Starred
 pub mod Whole
+pub mod WritersLawful
