@@ -6,3 +6,4 @@ pub mod Setting
 pub mod Found
 pub mod WritersPlay
 pub mod WritersLaw
+pub mod Accepts
