@@ -7,7 +7,7 @@ ghost use Rattle.std.specs.Vec.{made};
 ghost use Rattle.std.specs.declared.option.Option.the-variants.{Some};
 ghost use Rattle.records.specs.Meanings.{kindOf};
 ghost use Rattle.records.specs.Tree.{records, nodeAt};
-ghost use Rattle.records.specs.Checks.{answered, names, mayName, tooLarge, sizeFault, labelFault, exprFault, operatorFault, statementFault, checked, labelLaw, operatorLaw, tiles, formLaw, exprSound, targetLaw, fieldLaw, shapeLaw, rangeLaw, leftOut, nodeFault};
+ghost use Rattle.records.specs.Checks.{answered, names, mayName, sizeFault, labelFault, exprFault, operatorFault, statementFault, checked, labelLaw, operatorLaw, tiles, formLaw, exprSound, targetLaw, fieldLaw, rangeLaw, leftOut, nodeFault};
 ghost use Rattle.records.specs.Accepts.{ByTree, SoundIfOk};
 use crate::kinds::BREAK;
 use crate::kinds::DEEPEST;

@@ -1,3 +1,5 @@
+// The records of a script, and the checks that every later call rests on.
+
 mod checks;
 mod kinds;
 mod meanings;

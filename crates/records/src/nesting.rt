@@ -1,11 +1,12 @@
 // The open statements, as nodes are gone through in order.
 
 ghost use mathlib.Core.Path.{_≡_};
-ghost use mathlib.Core.List.{List, [], _∷_};
+ghost use mathlib.Core.List.{[], _∷_};
 ghost use Prim.Native.Nat.{_<_};
 ghost use lib.ListN.{length};
 ghost use Rattle.records.specs.Checks.{closed, limitOf};
 ghost use Rattle.records.specs.Nesting.{openOf};
+use crate::kinds::DEEPEST;
 use crate::nest::Nest;
 use crate::nest::Open;
 
@@ -14,7 +15,7 @@ impl Nest {
         ensures { λ r. ⌜ openOf r ≡ [] ⌝ }
     {
         Nest {
-            open: [Open { limit: 0, end: 0 }; 64],
+            open: [Open { limit: 0, end: 0 }; DEEPEST],
             count: 0,
         }
     }
