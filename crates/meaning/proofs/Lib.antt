@@ -1,3 +1,4 @@
 pub mod Place
 pub mod Layouts
 pub mod Lowered
+pub mod Idle
