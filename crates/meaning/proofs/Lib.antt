@@ -2,3 +2,5 @@ pub mod Place
 pub mod Layouts
 pub mod Lowered
 pub mod Idle
+pub mod Walk
+pub mod CallsAgree
