@@ -56,3 +56,7 @@ module _ (code : List Instr) (rows : List Row) (T : Tables) where
     pub comes-through : (Q : Conf → Type 0) → ((c : Conf) → Q c → move code rows T c ≡ None) → {c d : Conf} → move code rows T c ≡ Some d → Comes code rows T I Q c → I c
     comes-through Q f e (here q) = absurd (none-some (f _ q) e)
     comes-through Q f e (then i m t) = i
+
+    pub comes-map : (P Q : Conf → Type 0) → ((c : Conf) → P c → Q c) → {c : Conf} → Comes code rows T I P c → Comes code rows T I Q c
+    comes-map P Q f (here p) = here (f _ p)
+    comes-map P Q f (then i m t) = then i m (comes-map P Q f t)
