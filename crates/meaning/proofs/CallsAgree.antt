@@ -18,12 +18,11 @@ use Rattle.code.specs.declared.talk.Answer.{Answer}
 use Rattle.code.specs.declared.talk.Answer.the-variants.{Value, Done, Fault}
 use Rattle.code.specs.declared.talk.Purpose.{Purpose}
 use Rattle.code.specs.declared.talk.Question.{Question}
-use Rattle.code.specs.declared.talk.End.the-variants.{Value as Gives, Fault as Faults}
 use Rattle.meaning.specs.Machine.{Locals, Mach, withSlots, takes, resume}
 use Rattle.meaning.specs.Calls.{State, State.ready, State.waits, State.ended, State.halted, after, step, empty, loaded, Call, Call.run, Call.answer, Call.look, Call.put, Reply, Reply.spent, Reply.asks, Reply.ends, Reply.sticks, Reply.taken, Reply.over, Reply.jammed, Reply.found, Reply.declined, Told, told, declines, goes, plays, limitOk, runs, answered, answers, handleOf, lookup, seen, looks, overwritten, putting, puts, does, afterCalls, replies}
-use Rattle.meaning.specs.Reading.{Ask, Event, Event.put as fedPut, World}
+use Rattle.meaning.specs.Reading.{Ask, Event}
 use Rattle.meaning.specs.Run.{Out, Out.value, Out.broke, Out.continued, Out.returned, Out.fault, Out.waits as idles, Out.spent as endless, runScript}
-use Rattle.meaning.specs.Fed.{Tables, nameAt, inWords, orSame, pokeAt, pokeSlot, Conf, conf, noted, answeredBy, hearing, move, Comes, Comes.here, Comes.then, Goes}
+use Rattle.meaning.specs.Fed.{Tables, nameAt, orSame, pokeAt, pokeSlot, Conf, conf, noted, answeredBy, hearing, move, Comes, Comes.here, Comes.then, Goes}
 use Rattle.meaning.specs.Writer.{Writer}
 use Rattle.meaning.specs.Agreement.{Heights, fromAnswer, accepts, eventOf, fed, asked, SameStop, askedBy, Stopped, Underway, Agrees}
 use Rattle.meaning.proofs.Layouts.{Level, Follows}

@@ -7,9 +7,9 @@ use lib.ListN.{length}
 use Rattle.std.specs.declared.option.Option.{Option}
 use Rattle.std.specs.declared.option.Option.the-variants.{Some, None}
 use Rattle.records.specs.declared.types.Position.{Position}
-use Rattle.records.specs.Tree.{Name, Exp, Oper, Head, Head.noop, Head.var, Head.expr, Head.call, Head.assign, Head.other, Head.block, Head.try, Head.for, Head.if, Head.while, Head.doLoop, Head.break, Head.continue, Head.return, Head.throw, Tree, Tree.node, Forest, Forest.nil, Forest.more, Stmt, Block}
-use Rattle.meaning.specs.Reading.{Bytes, signOf, Ask, Ask.name as askName, Ask.expression, Ask.statement, Ask.combine, Ask.assign as assignTo, Ask.iterate, Ask.next, Event, Event.value as fedValue, Event.done as fedDone, Event.fault as fedFault, Event.put as fedPut, Cell, Scope, seek, setsInner, World, St as StOf, st, Around, Heard as HeardOf, Heard.value as heard, Heard.done as over, Heard.fault as fails, Heard.waits as idle, valued, doable, hears, asks as asksOf, reads, Truth, Truth.yes, Truth.no, Truth.neither, truth, decides, Reading, Reading.unit, Reading.yes as true′, Reading.opaque, Reading.no as false′, Reading.name, Reading.all, Reading.any, Items, Items.end, Items.item, reading as readingOf, goesThrough, Got as GotOf, Got.got, Got.bad, Got.dry, gotten, bindGot}
-use Rattle.meaning.specs.Run.{St, Heard, Got, asks, reading, Out, Out.value, Out.broke, Out.continued, Out.returned, Out.fault, Out.waits, Out.spent, bindG, bindV, bindN, opened, declared, closing, test, roundOn, again, rounds, catching, inFor, inTry, Running, scoped, naming, setting, signed, combining, assigning, endless, evaluate, evaluateAny, whileRound, runHead, run, runList, outermost, runScript}
+use Rattle.records.specs.Tree.{Exp, Oper, Head, Head.noop, Head.var, Head.expr, Head.call, Head.assign, Head.other, Head.block, Head.try, Head.for, Head.if, Head.while, Head.doLoop, Head.break, Head.continue, Head.return, Head.throw, Tree.node, Forest.nil, Forest.more, Stmt, Block}
+use Rattle.meaning.specs.Reading.{Bytes, signOf, Ask, Ask.name as askName, Ask.expression, Ask.statement, Ask.combine, Ask.assign as assignTo, Ask.iterate, Ask.next, Event, Event.value as fedValue, Event.done as fedDone, Event.fault as fedFault, Event.put as fedPut, Cell, seek, setsInner, St as StOf, st, Around, Heard as HeardOf, Heard.value as heard, Heard.done as over, Heard.fault as fails, Heard.waits as idle, valued, doable, hears, asks as asksOf, reads, Truth, Truth.yes, Truth.no, Truth.neither, truth, decides, Reading, Reading.unit, Reading.yes as true′, Reading.opaque, Reading.no as false′, Reading.name, Reading.all, Reading.any, Items, Items.end, Items.item, reading as readingOf, goesThrough, Got as GotOf, Got.got, Got.bad, Got.dry, gotten, bindGot}
+use Rattle.meaning.specs.Run.{St, Heard, Got, asks, Out, Out.value, Out.broke, Out.continued, Out.returned, Out.fault, Out.waits, Out.spent, bindG, bindV, bindN, opened, declared, closing, test, roundOn, again, rounds, catching, inFor, inTry, Running, scoped, naming, setting, signed, combining, assigning, endless, evaluate, evaluateAny, whileRound, runHead, run, runList, outermost, runScript}
 
 -- ## Questions and expressions
 

@@ -4,3 +4,5 @@ pub mod Lowered
 pub mod Idle
 pub mod Walk
 pub mod CallsAgree
+pub mod Declines
+pub mod Suited

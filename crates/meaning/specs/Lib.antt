@@ -12,3 +12,4 @@ pub mod Writers
 pub mod SetCode
 pub mod Compiled
 pub mod Agreement
+pub mod Declines
