@@ -24,9 +24,10 @@ use Rattle.meaning.specs.Reading.{Ask, Event}
 use Rattle.meaning.specs.Run.{Out, Out.value, Out.broke, Out.continued, Out.returned, Out.fault, Out.waits as idles, Out.spent as endless, runScript}
 use Rattle.meaning.specs.Fed.{Tables, nameAt, orSame, pokeAt, pokeSlot, Conf, conf, noted, answeredBy, hearing, move, Comes, Comes.here, Comes.then, Goes}
 use Rattle.meaning.specs.Writer.{Writer}
-use Rattle.meaning.specs.Agreement.{Heights, fromAnswer, accepts, eventOf, fed, asked, SameStop, askedBy, Stopped, Underway, Agrees}
+use Rattle.meaning.specs.Agreement.{Heights, fromAnswer, accepts, eventOf, fed, asked, SameStop, askedBy, Stopped, Underway, Agrees, MetAt, Agreement}
+use Rattle.meaning.specs.SetCode.{setCode, placeOf}
 use Rattle.meaning.proofs.Layouts.{Level, Follows}
-use Rattle.meaning.proofs.Lowered.{Distinct}
+use Rattle.meaning.proofs.Lowered.{Distinct, Moved}
 use Rattle.meaning.proofs.Idle.{Idle, script-idle}
 use Rattle.meaning.proofs.Walk.{Walk, Walk.stay, Walk.go, onward, beyond, beyond-suc, goes-on, comes-on, comes-here, comes-through, comes-map, none-some, same-move}
 
@@ -323,3 +324,22 @@ calls-agree code rows T W room H outside B D follows cs =
     let s = afterCalls code rows (length (T .names)) cs (loaded room) in
     let f = fed T cs rs in
     agrees-at code rows T W room H outside (runScript (W .reading) B f) (at (loaded room) f []) (script-idle (W .reading) B f) (follows f) (asked T rs) s (calls-walk code rows T D cs (loaded room) [])
+
+-- An operation outside segments is met at the heights of the place where it was set.
+level-met :
+    (ops : List Instr) (rows : List Row) (T : Tables) (W : Writer) (room : ℕ) (k : Bool) (B : Block) (M : Moved ops rows T W room k B) (s : State)
+    → Level (setCode W rows ops) rows T W room (M .heights) (M .outside) s → MetAt W rows ops (λ j. M .heights (placeOf W rows ops j)) s
+level-met ops rows T W room k B M (ready i m) l = λ j b e p. l (ap (M .outside) p ∙ M .marks j b e) ∙ ap (M .heights) p
+level-met ops rows T W room k B M (waits q u i m) l = tt
+level-met ops rows T W room k B M (ended e) l = tt
+level-met ops rows T W room k B M halted l = tt
+
+-- The agreement, where set code stands and the fed player follows the tree's run on it.
+pub agreement :
+    (ops : List Instr) (rows : List Row) (T : Tables) (W : Writer) (room : ℕ) (k : Bool) (B : Block) (M : Moved ops rows T W room k B)
+    → Distinct T
+    → ((f : List Event) (n : ℕ) → Follows (setCode W rows ops) rows T W room (M .heights) (M .outside) n (runScript (W .reading) B f n) (conf (ready 0 (empty room)) (record { feed = f; asked = [] })))
+    → Agreement B ops rows T W room
+agreement ops rows T W room k B M D follows =
+    let both = calls-agree (setCode W rows ops) rows T W room (M .heights) (M .outside) B D follows in
+    record { heights = λ j. M .heights (placeOf W rows ops j); agrees = λ cs. both cs .0; met = λ cs. level-met ops rows T W room k B M _ (both cs .1) }

@@ -21,7 +21,7 @@ use Rattle.code.specs.declared.talk.Purpose.{Purpose}
 use Rattle.code.specs.declared.talk.Purpose.the-variants.{Push, Store, Assigned, Open, Advance}
 use Rattle.meaning.specs.Machine.{Locals, Mach, Effect, Effect.next, Effect.goto, Effect.ask, Effect.fault, Effect.give, Effect.stuck, popping, pushes, branch, slotted, newest, slotAt, named, combines, noRow, disarming, advancing, dropping, exec, takes, resume}
 use Rattle.meaning.specs.Throws.{catches}
-use Rattle.meaning.specs.Calls.{State, State.ready, State.waits, State.ended, State.halted, instrAt, landed, after, step, loaded, Call, Call.run, Call.answer, Call.look, Call.put, declines, goes, plays, limitOk, answered, told, Reply.found, handleOf, lookup, overwritten, putting, does, afterCalls}
+use Rattle.meaning.specs.Calls.{State, State.ready, State.waits, State.ended, State.halted, instrAt, landed, after, step, loaded, Call, Call.run, Call.answer, Call.look, Call.put, declines, goes, plays, limitOk, answered, told, Reply.found, handleOf, lookup, seen, overwritten, putting, does, afterCalls}
 use Rattle.meaning.specs.Declines.{suits, Suited}
 
 -- ## Effects
@@ -154,6 +154,13 @@ module _ (code : List Instr) (rows : List Row) (names : ℕ) where
       on (ended e) z r = tt
       on halted z r = tt
 
+  seen-suited : (x : ℕ) (m : Mach) (s : State) → Suited s → Suited (seen names x m s .left)
+  seen-suited x m s z = on (ltb x names)
+    where
+      on : (b : Bool) → Suited (cond b (told (found (handleOf (lookup x (m .slots .live)))) s) (declines 34 s) .left)
+      on true = z
+      on false = z
+
   does-suited : (c : Call) (s : State) → Suited s → Suited (does code rows names c s .left)
   does-suited (run n) (ready i m) z = on (limitOk n)
     where
@@ -171,16 +178,8 @@ module _ (code : List Instr) (rows : List Row) (names : ℕ) where
       on false = z
   does-suited (answer a) (ended e) z = tt
   does-suited (answer a) halted z = tt
-  does-suited (look x) (ready i m) z = on (ltb x names)
-    where
-      on : (b : Bool) → Suited (cond b (told (found (handleOf (lookup x (m .slots .live)))) (ready i m)) (declines 34 (ready i m)) .left)
-      on true = tt
-      on false = tt
-  does-suited (look x) (waits q u i m) z = on (ltb x names)
-    where
-      on : (b : Bool) → Suited (cond b (told (found (handleOf (lookup x (m .slots .live)))) (waits q u i m)) (declines 34 (waits q u i m)) .left)
-      on true = z
-      on false = z
+  does-suited (look x) (ready i m) z = seen-suited x m (ready i m) z
+  does-suited (look x) (waits q u i m) z = seen-suited x m (waits q u i m) z
   does-suited (look x) (ended e) z = tt
   does-suited (look x) halted z = tt
   does-suited (put x h) (ready i m) z = tt
