@@ -7,3 +7,8 @@ pub mod Found
 pub mod WritersPlay
 pub mod WritersLaw
 pub mod Accepts
+pub mod Idle
+pub mod Walk
+pub mod CallsAgree
+pub mod Declines
+pub mod Suited

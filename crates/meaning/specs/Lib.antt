@@ -15,3 +15,4 @@ pub mod Agreement
 pub mod Starred
 pub mod Whole
 pub mod WritersLawful
+pub mod Declines
