@@ -6,3 +6,9 @@ pub mod Walk
 pub mod CallsAgree
 pub mod Declines
 pub mod Suited
+pub mod Moves
+pub mod Setting
+pub mod Found
+pub mod WritersPlay
+pub mod WritersLaw
+pub mod Accepts

@@ -13,3 +13,6 @@ pub mod SetCode
 pub mod Compiled
 pub mod Agreement
 pub mod Declines
+pub mod Starred
+pub mod Whole
+pub mod WritersLawful

@@ -7,6 +7,7 @@ use lib.Dec.{eqb, ltb, leb}
 use Rattle.std.specs.declared.option.Option.{Option}
 use Rattle.std.specs.declared.option.Option.the-variants.{Some, None}
 use Rattle.records.specs.Tree.{Records}
+use Rattle.records.specs.Checks.{every, labelLaw, exprSound}
 use Rattle.code.specs.declared.ops.Op.{Op}
 use Rattle.code.specs.declared.ops.Op.the-variants.{Unit as UnitOp, Bool as BoolOp, StoreLocal, LoadNamed, AssignNamed, AssignLocal, DeclareLocal, Pop, Jump, JumpIfTrue, JumpIfFalse, Rotate, UnwindTo, Tick, Checkpoint, EvalAst, PushHandler, PopHandler, IterInit, IterNext, IterDrop, StoreShared, Throw, Return, EvalExpr, Foreign}
 use Rattle.code.specs.declared.ops.Instr.{Instr}
@@ -171,3 +172,19 @@ module _ (W : Writer) (rows : List Row) where
   abbrev pub writeFaults : ℕ → List Instr → Option ℕ
   writeFaults room [] = None
   writeFaults room (x ∷ xs) = orNext (writeFault room (exprOf rows (x .op))) (writeFaults (room - width x) xs)
+
+  -- Sizes that are too large: text, labels, expressions, operations, and the slice for set code.
+  abbrev pub setTooLarge : Records → ℕ → ℕ → Bool
+  setTooLarge R ops room =
+      ltb 1048576 (length (R .text)) || (ltb 65536 (length (R .labels)) || (ltb 1048576 (length (R .exprs)) || (ltb 4194304 ops || ltb 4194304 room)))
+
+  -- The first number that setting meets: sizes; labels and expressions; targets and rows; the memory for new places, one
+  -- number an operation; then what is written, in code order.
+  unfoldable pub setFault : Records → List Instr → ℕ → ℕ → Option ℕ
+  setFault R ops room places =
+      cond (setTooLarge R (length ops) room) (Some 10)
+      (cond (every (labelLaw R) (length (R .labels) - 1) 1 && every (exprSound R) (length (R .exprs) - 1) 1)
+      (cond (targetsFine (length ops) ops && rowsFine (length (R .exprs)) rows)
+      (cond (leb (length ops) places) (writeFaults room ops) (Some 23))
+      (Some 11))
+      (Some 11))

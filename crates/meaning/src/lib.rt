@@ -1,10 +1,18 @@
-ghost use mathlib.Core.Path.{_≡_};
-ghost use Rattle.meaning.specs.Calls.{replies};
-ghost use Rattle.meaning.specs.Machine.{Mach};
-ghost use Rattle.meaning.specs.Run.{runScript};
+// What a script means, and what is proved of it: each function's contract is a theorem about the definitions in specs/.
 
-pub fn one(x: u8) -> u8
-    ensures { λ r. ⌜ r ≡ x ⌝ }
+ghost use Rattle.meaning.specs.Starred.{Reproduced, worked};
+ghost use Rattle.meaning.specs.WritersLawful.{WritersLawful};
+
+// The worked scripts come out as they should.
+pub fn worked_scripts() -> u8
+    ensures { λ _. ⌜ Reproduced worked ⌝ }
 {
-    x
+    0
+}
+
+// Whole and Written keep the writers' law.
+pub fn lawful_writers() -> u8
+    ensures { λ _. ⌜ WritersLawful ⌝ }
+{
+    0
 }

@@ -95,3 +95,19 @@ isList False = false
 isList Name = false
 isList AllOf = true
 isList AnyOf = true
+
+-- The number that a kind has.
+abbrev pub kindNumber : Kind → ℕ
+kindNumber Noop = 1
+kindNumber Var = 2
+kindNumber Expr = 3
+kindNumber FnCall = 4
+kindNumber Assignment = 5
+kindNumber Block = 6
+kindNumber TryCatch = 7
+kindNumber For = 8
+kindNumber If = 9
+kindNumber While = 10
+kindNumber Do = 11
+kindNumber BreakLoop = 12
+kindNumber Return = 13
