@@ -1,3 +1,4 @@
 pub mod Place
 pub mod Layouts
 pub mod Slots
+pub mod Rel
