@@ -79,6 +79,25 @@ abbrev pub modified : Option ℕ → (Slot → Slot) → List Slot → List Slot
 modified None f ss = ss
 modified (Some z) f ss = modify z f ss
 
+-- The scopes of a loop are the outermost of those around its body.
+pub data Ends (ls : Scopes) : Scopes → Type 0 where
+  same : Ends ls ls
+  under : {n : List Bytes} {ns : Scopes} → Ends ls ns → Ends ls (n ∷ ns)
+
+pub ends-le : {ls ns : Scopes} → Ends ls ns → length ls ≤ length ns
+ends-le same = omega arith
+ends-le (under z) = let h = ends-le z in omega arith
+
+pub ends-depth : {ls ns : Scopes} → Ends ls ns → depth ls ≤ depth ns
+ends-depth same = omega arith
+ends-depth (under z) = let h = ends-depth z in omega arith
+
+-- A list with so many elements more.
+abbrev pub Over : {A : Type 0} → ℕ → List A → List A → Type 0
+Over zero xs ys = xs ≡ ys
+Over (suc n) [] ys = ⊥
+Over (suc n) (x ∷ xs) ys = Over n xs ys
+
 -- A number of the table and its name.
 abbrev pub Named : Env → ℕ → Bytes → Type 0
 Named E d x = (d < length (E .T .names)) × (nameAt (E .T) d ≡ x)
@@ -256,10 +275,6 @@ module _ (E : Env) where
   pub whole : {js : List ℕ} {ns : Scopes} {ss : List Scope} {live : List Slot} → Rel js ns ss live → Rel js ns (keep (length ns) ss) (take (depth ns) live)
   whole {js} {ns} {ss} {live} r = subst₂ (λ (x : List Scope) (y : List Slot). Rel js ns x y) (sym (keep-all ss (length ns) (rel-scopes r))) (sym (take-exact (depth ns) live (rel-length r))) r
 
-  -- Fewer slots are known to be free.
-  pub forgets : {j : ℕ} {js : List ℕ} {ns : Scopes} {ss : List Scope} {live : List Slot} → Rel (j ∷ js) ns ss live → Rel js ns ss live
-  forgets r = record { runs = r .runs; firm = r .firm .1 }
-
   -- ## A declaration
   pub declared-rel : {js : List ℕ} {n : List Bytes} {ns : Scopes} {ss : List Scope} {live : List Slot} (d : ℕ) (x : Bytes) (h : ℕ) (k : Bool) → Named E d x → Rel js (n ∷ ns) ss live
       → Rel js ((n ++ x ∷ []) ∷ ns) (declares x (record { handle = h; constant = k }) ss) (live ++ record { name = d; handle = h; constant = k } ∷ [])
@@ -417,3 +432,51 @@ module _ (E : Env) where
             spelled = spell-mod z (stored h k) (λ u. refl) seg n (pt .spelled);
             looks = λ b. looks-mod b x z (stored h k) (λ u. refl) seg (v .0) (sc b) q (v .1) (pt .looks b)
           }) t
+
+  -- The slot of such a name.
+  pub reused : {js : List ℕ} {n : List Bytes} {ns : Scopes} {ss : List Scope} {live : List Slot} (x : Bytes) (h : ℕ) (k : Bool) (i : ℕ) → resolve x (n ∷ ns) ≡ Some i → depth ns ≤ i → Below js (depth ns) → Rel js (n ∷ ns) ss live
+      → (s : Slot) × (slotAt i live ≡ Some s) × Rel js (n ∷ ns) (declares x (record { handle = h; constant = k }) ss) (set live i (stored h k s))
+  reused {js} {n} {ns} {ss} {live} x h k i e d b r =
+      let z : Resolved (Some i) x ss live = subst (λ (o : Option ℕ). Resolved o x ss live) e (resolves x r) in
+      (z .0, z .1, stores-rel x h k i (z .0) e d (z .1) (firm-above js i live (stored h k (z .0)) (below-le js b d) (r .firm)) r)
+
+  resolve-own : (x : Bytes) (i : ℕ) (o : Option ℕ) (bs : List Bytes) → resolveFrom x i o (bs ++ x ∷ []) ≡ Some (i + length bs)
+  resolve-own x i o [] = ap (λ (t : Bool). cond t (Some i) o) (sameBytes-refl x) ∙ ap {B = Option ℕ} Some (omega arith)
+  resolve-own x i o (b ∷ bs) = resolve-own x (i + 1) (cond (sameBytes b x) (Some i) o) bs ∙ ap {B = Option ℕ} Some (omega arith)
+
+  -- The one slot of a loop variable is stored to.
+  pub shares : {js : List ℕ} {x : Bytes} {ns : Scopes} {ss : List Scope} {live : List Slot} (h : ℕ) → Rel (depth ns ∷ js) ((x ∷ []) ∷ ns) ss live
+      → (s : Slot) × (slotAt (depth ns) live ≡ Some s) × Rel (depth ns ∷ js) ((x ∷ []) ∷ ns) (declares x (record { handle = h; constant = false }) ss) (set live (depth ns) (record { name = s .name; handle = h; constant = s .constant }))
+  shares {js} {x} {ns} {ss} {live} h r =
+      let s = r .firm .0 .0 in let p = r .firm .0 .1 in let q = r .firm .0 .2 in
+      (s, p, subst (λ (t : Bool). Rel (depth ns ∷ js) ((x ∷ []) ∷ ns) (declares x (record { handle = h; constant = false }) ss) (set live (depth ns) (record { name = s .name; handle = h; constant = t }))) (sym q)
+        (stores-rel x h false (depth ns) s own (omega arith) p (firm-set (depth ns ∷ js) (depth ns) live s (stored h false s) p (sym q) (r .firm)) r))
+    where
+      flat-length : (ns : Scopes) → length (flat ns) ≡ depth ns
+      flat-length [] = refl
+      flat-length (n ∷ ns) = length-append (flat ns) n ∙ let z = flat-length ns in omega arith
+      own : resolve x ((x ∷ []) ∷ ns) ≡ Some (depth ns)
+      own = resolve-own x 0 None (flat ns) ∙ ap {B = Option ℕ} Some (let z = flat-length ns in omega arith)
+
+  -- A loop variable is new, and unit.
+  pub introduces : {js : List ℕ} {ns : Scopes} {ss : List Scope} {live : List Slot} (d : ℕ) (x : Bytes) → Named E d x → Rel js ns ss live
+      → Rel (depth ns ∷ js) ((x ∷ []) ∷ ns) (declares x (record { handle = 0; constant = false }) (noScope ∷ ss)) (live ++ record { name = d; handle = 0; constant = false } ∷ [])
+  introduces {js} {ns} {ss} {live} d x nm r = let z = declared-rel d x 0 false nm (opens r) in record { runs = z .runs; firm = (new live (depth ns) (rel-length r), z .firm) }
+    where
+      new : (xs : List Slot) (n : ℕ) → length xs ≡ n → Free n (xs ++ record { name = d; handle = 0; constant = false } ∷ [])
+      new xs n e = subst (λ (m : ℕ). Free m (xs ++ record { name = d; handle = 0; constant = false } ∷ [])) e (end xs)
+        where
+          end : (xs : List Slot) → Free (length xs) (xs ++ record { name = d; handle = 0; constant = false } ∷ [])
+          end [] = (record { name = d; handle = 0; constant = false }, refl, refl)
+          end (y ∷ ys) = end ys
+
+  -- ## The scopes of a loop are the outermost of those around its body
+  pub dropTo : {ls ns : Scopes} {js : List ℕ} {ss : List Scope} {live : List Slot} → Ends ls ns → Below js (depth ls) → Rel js ns ss live → Rel js ls (keep (length ls) ss) (take (depth ls) live)
+  dropTo same b r = whole r
+  dropTo {ls} {js} {ss} {live} (under {ns} z) b r = subst₂ (λ (x : List Scope) (y : List Slot). Rel js ls x y) (keep-keep (length ls) (length ns) ss (ends-le z)) (take-take (depth ls) (depth ns) live (ends-depth z)) (dropTo z b (closes (below-le js b (ends-depth z)) r))
+
+  -- Fewer slots are known to be free.
+  pub forgets : {ns : Scopes} {ss : List Scope} {live : List Slot} (k : ℕ) (js : List ℕ) {js′ : List ℕ} → Over k js js′ → Rel js ns ss live → Rel js′ ns ss live
+  forgets {ns} {ss} {live} zero js o r = subst (λ (q : List ℕ). Rel q ns ss live) o r
+  forgets (suc k) [] o r = absurd o
+  forgets (suc k) (j ∷ js) o r = forgets k js o (record { runs = r .runs; firm = r .firm .1 })
