@@ -2,3 +2,4 @@ pub mod Place
 pub mod Layouts
 pub mod Slots
 pub mod Rel
+pub mod Hear
