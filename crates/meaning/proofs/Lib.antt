@@ -3,3 +3,4 @@ pub mod Layouts
 pub mod Slots
 pub mod Rel
 pub mod Hear
+pub mod Exits
