@@ -122,7 +122,7 @@ over-length zero xs ys o = let z = ap length o in omega arith
 over-length (suc n) [] ys o = absurd o
 over-length (suc n) (x ∷ xs) ys o = let z = over-length n xs ys o in omega arith
 
-push-length : (κ : Bool) (v : ℕ) → length (push κ v) ≡ one κ
+pub push-length : (κ : Bool) (v : ℕ) → length (push κ v) ≡ one κ
 push-length true v = refl
 push-length false v = refl
 
@@ -132,7 +132,7 @@ jumps yes t p m = next m
 jumps no t p m = goto t m
 jumps neither t p m = faults 3 p m
 
-branch-is : (t : ℕ) (p : Position) (v : ℕ) (m : Mach) → branch false t p v m ≡ jumps (truth v) t p m
+pub branch-is : (t : ℕ) (p : Position) (v : ℕ) (m : Mach) → branch false t p v m ≡ jumps (truth v) t p m
 branch-is t p v m = go (eqb v 1) (eqb v 2)
   where
     go : (x y : Bool) → cond x (cond false (next m) (goto t m)) (cond y (cond false (goto t m) (next m)) (faults 3 p m)) ≡ jumps (cond x no (cond y yes neither)) t p m

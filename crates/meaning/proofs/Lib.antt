@@ -4,3 +4,4 @@ pub mod Slots
 pub mod Rel
 pub mod Hear
 pub mod Exits
+pub mod Loops
