@@ -5,3 +5,5 @@ pub mod Rel
 pub mod Hear
 pub mod Exits
 pub mod Loops
+pub mod Heads
+pub mod Sim
