@@ -8,22 +8,24 @@ use lib.ListN.{length}
 use lib.Dec.{eqb}
 use Rattle.std.specs.declared.option.Option.{Option}
 use Rattle.std.specs.declared.option.Option.the-variants.{Some, None}
-use Rattle.records.specs.Tree.{Head, Head.noop, Head.var, Head.expr, Head.call, Head.assign, Head.other, Head.block, Head.try, Head.for, Head.if, Head.while, Head.doLoop, Head.break, Head.continue, Head.return, Head.throw, Tree, Tree.node, Forest, Forest.nil, Forest.more, Stmt, Block}
+use Rattle.records.specs.Tree.{nowhere, Head, Head.noop, Head.var, Head.expr, Head.call, Head.assign, Head.other, Head.block, Head.try, Head.for, Head.if, Head.while, Head.doLoop, Head.break, Head.continue, Head.return, Head.throw, Tree, Tree.node, Forest, Forest.nil, Forest.more, Stmt, Block}
 use Rattle.code.specs.declared.ops.Instr.{Instr}
 use Rattle.code.specs.declared.ops.Row.{Row}
+use Rattle.code.specs.declared.ops.Op.the-variants.{Return}
 use Rattle.code.specs.declared.talk.Slot.{Slot}
-use Rattle.meaning.specs.Calls.{State, State.ready, empty}
+use Rattle.code.specs.declared.talk.End.the-variants.{Value as Gives}
+use Rattle.meaning.specs.Calls.{State.ready, State.ended, empty}
 use Rattle.meaning.specs.Reading.{Bytes, Scope, noScope, Event, World, st}
 use Rattle.meaning.specs.Run.{St, Out, Out.value, Out.broke, Out.continued, Out.returned, Out.fault, Out.waits, Out.spent, opened, Running, runHead, run, runList, runScript}
 use Rattle.meaning.specs.Breaks.{hasBreakValue}
 use Rattle.meaning.specs.Fed.{Tables, nameAt, numberOf, Conf, conf, Comes, Comes.here, Comes.then, Goes}
 use Rattle.meaning.specs.Writer.{Writer, Lawful}
-use Rattle.meaning.proofs.Place.{Heights, Scopes, depth, addName, after, afterList, Ctx, topCtx, inScopes, kind, kindHead, kindList, deep, deepHead, deepList, CodeHead, Scoped, Code, CodeList, CodeScript, Checks, Drop, Glue}
+use Rattle.meaning.proofs.Place.{Heights, Scopes, depth, addName, after, afterList, Ctx, topCtx, heights, inScopes, kind, kindHead, kindList, deep, deepHead, deepList, CodeHead, Scoped, Code, CodeList, CodeScript, Checks, Drop, Glue}
 use Rattle.meaning.proofs.Layouts.{Level, Follows, Simulation}
 use Rattle.meaning.proofs.Slots.{Below}
 use Rattle.meaning.proofs.Rel.{Env, Rel, Runs, Runs.bottom, rel-length, rel-scopes, opens}
-use Rattle.meaning.proofs.Hear.{Frame, mach, around, Lev, Ev, next-then, hop}
-use Rattle.meaning.proofs.Exits.{Cx, push, Fits, layout, Exit, Done, Low, Meets, act, op, meets, done, dropped, glued, sequel, closed, outer, lives}
+use Rattle.meaning.proofs.Hear.{Frame, mach, around, Lev, Ev, Ins, next-then, hop}
+use Rattle.meaning.proofs.Exits.{push, Fits, layout, Exit, Done, Low, Meets, act, op, meets, done, dropped, glued, sequel, closed, outer, lives}
 use Rattle.meaning.proofs.Loops.{here as hereCx, Space, low-under, continues}
 use Rattle.meaning.proofs.Heads.{Does, Blk, sim-noop, sim-var, sim-expr, asked-whole, sim-assign, sim-block, sim-try, sim-for, sim-if, sim-while, sim-do, sim-break, sim-return, sim-throw}
 
@@ -119,3 +121,50 @@ module _ (E : Env) where
     pub simL : (B : Block) → SimL B
     simL nil k κ v c i r bl cl F a b n σ live z fit lo sp h = hop z (done (live, refl, h, fit))
     simL (more s B) k κ v c i r bl cl F a b n σ live z fit lo sp h = listed s B (simS s) (simL B) k κ v c i r bl cl F a b n σ live z fit lo sp h
+
+-- ## The whole script
+
+module _ (E : Env) where
+  -- The levels as the goal has them.
+  unlevel : {Q : Conf → Type 0} {d : Conf} → Ev E Q d → Comes (E .code) (E .rows) (E .T) (λ c. Level (E .code) (E .rows) (E .T) (E .W) (E .room) (E .H) (E .free) (c .state)) Q d
+  unlevel (here q) = here q
+  unlevel (then l e t) = then (l .level) e (unlevel t)
+
+  unlevel-goes : (n : ℕ) (d : Conf) → Goes (E .code) (E .rows) (E .T) (Lev E) n d → Goes (E .code) (E .rows) (E .T) (λ c. Level (E .code) (E .rows) (E .T) (E .W) (E .room) (E .H) (E .free) (c .state)) n d
+  unlevel-goes zero d g = tt
+  unlevel-goes (suc n) d g = (g .0, g .1 .level, g .2, unlevel-goes n (g .0) (g .3))
+
+  never : {Q : Conf → Type 0} {d : Conf} → Ev E Q d → ((c : Conf) → Q c → ⊥) → ⊥
+  never (here q) f = f _ q
+  never (then l e t) f = never t f
+
+  -- Around the outermost statements there is nothing.
+  bare : Frame
+  bare = record { its = []; hands = []; vars = [] }
+
+  -- From the end of the statements to the end of the script.
+  finished : (B : Block) (n m u z : ℕ) (d : Conf) → Glue (layout E) (kindList false B) true (inScopes (afterList ([] ∷ []) B) topCtx) m u → Ins E Return nowhere (heights 1 (inScopes (afterList ([] ∷ []) B) topCtx)) u z
+      → (r : Out) → Ev E (Done E (hereCx None bare bare bare n) false [] (afterList ([] ∷ []) B) (kindList false B) m r) d → Follows (E .code) (E .rows) (E .T) (E .W) (E .room) (E .H) (E .free) n r d
+  unfolding bare
+  finished B n m u z d g i (value v σ) t = unlevel (next-then t (λ x q.
+      let mt : Meets (inScopes (afterList ([] ∷ []) B) topCtx) [] [] (q .is .0) = record { its = refl; hands = refl; slots = rel-length E (q .is .2) } in
+      subst (λ (y : Conf). Ev E (λ c. c ≡ conf (ended (Gives v)) (σ .world)) y) (sym (q .is .1)) (glued (kindList false B) true v g mt (q .is .3) (λ fit. act mt refl i (here refl)))))
+  finished B n m u z d g i (broke v σ) t = never t (λ x q. q .is .0)
+  finished B n m u z d g i (continued σ) t = never t (λ x q. q .is .0)
+  finished B n m u z d g i (returned v σ) t = unlevel (next-then t (λ x q. here (q .is)))
+  finished B n m u z d g i (fault h p σ) t = unlevel (next-then t (λ x q. here (q .is .3)))
+  finished B n m u z d g i (waits q A σ) t = unlevel (next-then t (λ x y. here (y .is)))
+  finished B n m u z d g i spent t = unlevel-goes (suc n) d (lives E (suc n) (next-then t (λ x q. here (q .is))))
+
+  followed : (k : Bool) (B : Block) → deepList B ≤ 64 → CodeScript (layout E) k B → (f : List Event) (n : ℕ)
+      → Follows (E .code) (E .rows) (E .T) (E .W) (E .room) (E .H) (E .free) n (runScript (E .W .reading) B f n) (conf (ready 0 (empty (E .room))) (record { feed = f; asked = [] }))
+  unfolding bare
+  followed k B dp z f n =
+      finished B n (z .0) (z .1) (z .2) (conf (ready 0 (empty (E .room))) (record { feed = f; asked = [] })) (z .4) (op (z .5)) (runScript (E .W .reading) B f n)
+        (simL E B k false 0 topCtx [] [] bare bare bare 0 (z .0) n (st (noScope ∷ []) (record { feed = f; asked = [] })) [] (z .3) refl
+          (record { low = tt; base = tt; its = refl; hands = refl }) (record { rh = omega arith; ri = omega arith }) (opens E (record { runs = bottom; firm = tt })))
+
+-- The fed player follows the tree, wherever set code of a lawful writer stands, at the heights of its places.
+pub simulation : (code : List Instr) (rows : List Row) (T : Tables) (W : Writer) (room : ℕ) (H : ℕ → Heights) (outside : ℕ → Bool) → Simulation code rows T W room H outside
+simulation code rows T W room H outside exprs k B law once dp z f n =
+    followed (record { code = code; rows = rows; T = T; W = W; room = room; H = H; free = outside; exprs = exprs; law = law; once = once }) k B dp z f n
