@@ -12,3 +12,10 @@ pub mod Found
 pub mod WritersPlay
 pub mod WritersLaw
 pub mod Accepts
+pub mod Slots
+pub mod Rel
+pub mod Hear
+pub mod Exits
+pub mod Loops
+pub mod Heads
+pub mod Sim
