@@ -19,3 +19,4 @@ pub mod Exits
 pub mod Loops
 pub mod Heads
 pub mod Sim
+pub mod SpelledTree
