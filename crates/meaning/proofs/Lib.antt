@@ -20,3 +20,4 @@ pub mod Loops
 pub mod Heads
 pub mod Sim
 pub mod SpelledTree
+pub mod Together
