@@ -1,13 +1,13 @@
 -- What the fed player comes to, by what the tree's run comes to; and how the parts of a run join.
 use mathlib.Core.Path.{_≡_, refl, sym, ap, ap₂, subst, subst₂, _∙_}
 use mathlib.Core.List.{List, [], _∷_, _++_}
-use mathlib.Core.Logic.{_⊎_, inl, inr}
-use mathlib.Core.Bool.{Bool, true, false, cond, _||_}
+use mathlib.Core.Logic.{inl, inr}
+use mathlib.Core.Bool.{Bool, true, false, cond}
 use Prim.Native.Nat.{ℕ, zero, suc, _+_, _-_, _≤_, _<_}
 use native.Mathlib.Omega.{arith}
-use lib.ListN.{length, take, length-drop, length-take}
+use lib.ListN.{length, take, length-take}
 use lib.Seq.{take-take, take-all}
-use lib.Dec.{eqb, leb}
+use lib.Dec.{eqb}
 use borrow.Author.Tests.{both-ways, le-leb}
 use Rattle.std.specs.declared.option.Option.{Option}
 use Rattle.std.specs.declared.option.Option.the-variants.{Some, None}
@@ -15,26 +15,25 @@ use Rattle.records.specs.declared.types.Position.{Position}
 use Rattle.records.specs.Tree.{nowhere}
 use Rattle.code.specs.declared.ops.Op.{Op}
 use Rattle.code.specs.declared.ops.Op.the-variants.{Jump, JumpIfFalse, UnwindTo}
-use Rattle.code.specs.declared.ops.Instr.{Instr}
 use Rattle.code.specs.declared.talk.Slot.{Slot}
 use Rattle.code.specs.declared.talk.Handler.{Handler}
 use Rattle.code.specs.declared.talk.Question.{Question}
 use Rattle.code.specs.declared.talk.Purpose.{Purpose}
 use Rattle.code.specs.declared.talk.Answer.the-variants.{Value, Done as DoneAnswer}
 use Rattle.code.specs.declared.talk.End.the-variants.{Value as Gives, Fault as Faults}
-use Rattle.meaning.specs.Machine.{Locals, Mach, Effect, Effect.next, Effect.goto, Effect.ask, Effect.fault as faults, Effect.give, Effect.stuck, cut, withSlots, branch, exec, resume}
+use Rattle.meaning.specs.Machine.{Locals, Mach, Effect, Effect.next, Effect.goto, Effect.fault as faults, Effect.stuck, branch, exec, resume}
 use Rattle.meaning.specs.Throws.{keep, catches}
 use Rattle.meaning.specs.Calls.{State, State.ready, State.waits as waiting, State.ended, State.halted, instrAt, landed, after}
-use Rattle.meaning.specs.Reading.{Bytes, Ask, valued, doable, Scope, seek, setsInner, World, St as StOf, st, Around, Heard.value as heardV, Heard.done as heardD, Heard.fault as heardF, Heard.waits as heardW, asks, Truth, Truth.yes, Truth.no, Truth.neither, truth, Reading, Got as GotOf, Got.got, Got.bad, Got.dry, gotten, reading}
+use Rattle.meaning.specs.Reading.{Bytes, Ask, valued, doable, Scope, seek, setsInner, World, st, Around, Heard.value as heardV, Heard.done as heardD, Heard.fault as heardF, Heard.waits as heardW, asks, Truth, Truth.yes, Truth.no, Truth.neither, truth, Got as GotOf, Got.got, Got.bad, Got.dry, gotten, reading}
 use Rattle.meaning.specs.Run.{St, Got, Heard, Out, Out.value, Out.broke, Out.continued, Out.returned, Out.fault, Out.waits, Out.spent, bindG, bindV, bindN, closing, closed as closedSt, test}
 use Rattle.meaning.specs.Fed.{inWords, findSlot, pokeSlot, Conf, conf, move, Comes, Comes.here, Comes.then, Goes}
-use Rattle.meaning.specs.Writer.{Lawful, Holds, Inside, Settles, risen}
+use Rattle.meaning.specs.Writer.{Inside, Settles}
 use Rattle.meaning.specs.Agreement.{Alike, Heights, armed, heightsOf}
 use Rattle.meaning.proofs.Place.{Scopes, depth, Ctx, LoopAt, Layout, heights, one, inScopes, lessHands, lessIters, upTo, Hop, Glue, Drop, Pops, Drops, Unwind, Leave, Blank}
 use Rattle.meaning.proofs.Layouts.{setLayout, Level}
-use Rattle.meaning.proofs.Slots.{keep-keep, keep-all, Below, below-le}
+use Rattle.meaning.proofs.Slots.{keep-keep, keep-all, keep-length, Below}
 use Rattle.meaning.proofs.Rel.{Env, locals, Rel, rel-length, rel-scopes, look-agrees, closes, whole, Ends, ends-le, Over}
-use Rattle.meaning.proofs.Hear.{Frame, mach, around, Lev, Ev, Ins, After, moved, steps, level-at, insTo, ins, next-then, hop, Hears, HeardAt, Suits, hear, Same, SameGot, reading-same}
+use Rattle.meaning.proofs.Hear.{Frame, mach, around, Lev, Ev, Ins, After, level-at, insTo, next-then, hop, Hears, HeardAt, Suits, hear, SameGot, reading-same}
 
 -- ## Goals
 
@@ -281,8 +280,8 @@ module _ {E : Env} where
       → Ev E (Done E c true ns ns′ κ b (bindG (reading seek setsInner (E .W .reading x) (around (c .hs)) σ) k)) (conf (ready a (mach E [] (c .hs) live)) (σ .world))
   evaluated {a} {m} {c} {ns} {ns′} {κ} {b} {σ} {live} {k} x z r f =
       through (E .law .plays x (z .0) (E .code) (E .rows) a (mach E [] (c .hs) live) (σ .world) (around (c .hs)) (z .1) (let l = E .law .low in omega arith))
-        (inside-level a (a + length (E .W .segment x)) (0 + E .W .rise) (λ i p q. z .3 i p (subst (λ (y : ℕ). i < y) (z .2) q)))
-        (λ d s. go (reading seek setsInner (E .W .reading x) (around (c .hs)) σ) (reading (findSlot (E .T)) (pokeSlot (E .T)) (E .W .reading x) (around (c .hs)) (st (locals E live) (σ .world))) d (reading-same E (E .W .reading x) (around (c .hs)) (σ .world) r .is) s)
+      (inside-level a (a + length (E .W .segment x)) (0 + E .W .rise) (λ i p q. z .3 i p (subst (λ (y : ℕ). i < y) (z .2) q)))
+      (λ d s. go (reading seek setsInner (E .W .reading x) (around (c .hs)) σ) (reading (findSlot (E .T)) (pokeSlot (E .T)) (E .W .reading x) (around (c .hs)) (st (locals E live) (σ .world))) d (reading-same E (E .W .reading x) (around (c .hs)) (σ .world) r .is) s)
     where
       go : (g : Got) (g′ : GotOf Locals) (d : Conf) → SameGot E (c .hs .vars) ns (around (c .hs)) g g′ → Settles (E .T) a (a + length (E .W .segment x)) (E .W .rise) (mach E [] (c .hs) live) g′ d → Ev E (Done E c true ns ns′ κ b (bindG g k)) d
       go (got v σ′) g′ d s t =
@@ -328,28 +327,31 @@ module _ {E : Env} where
     where
       kk : (js : List ℕ) (ls : Scopes) (ss : List Scope) (live : List Slot) → length ls ≤ length ns → Rel E js ls (keep (length ls) ss) live → Rel E js ls (keep (length ls) (keep (length ns) ss)) live
       kk js ls ss live o q = subst (λ (y : List Scope). Rel E js ls y live) (sym (keep-keep (length ls) (length ns) ss o)) q
+
       brk : (L : Option LoopAt) (v : ℕ) (σ : St) (d : Conf) → LowAt L (c .hs) (c .bl) (c .cl) ns → BrokeAt E L (c .bl) v σ d → BrokeAt E L (c .bl) v (closedSt (length ns) σ) d
       brk None v σ d o q = q
       brk (Some l) v σ d o q = (q .0, q .1, kk (c .bl .vars) (l .bns) (σ .env) (q .0) (ends-le (o .0)) (q .2), q .3)
+
       cnt : (L : Option LoopAt) (σ : St) (d : Conf) → LowAt L (c .hs) (c .bl) (c .cl) ns → ContAt E L (c .cl) σ d → ContAt E L (c .cl) (closedSt (length ns) σ) d
       cnt None σ d o q = q
       cnt (Some l) σ d o q = (q .0, q .1, q .2, kk (c .cl .vars) (l .cns) (σ .env) (q .0) (ends-le (o .1)) (q .3))
-      one-less : (ss : List Scope) → length ss ≡ suc (length ns) → length (keep (length ns) ss) ≡ length ns
-      one-less ss z = simp length-drop (omega arith)
+
       shut : (σ : St) (live : List Slot) → Rel E (c .hs .vars) ns₁ (σ .env) live → Rel E (c .hs .vars) ns (keep (length ns) (σ .env)) (take (depth ns) live)
       shut σ live h = closes E (lo .base) (subst (λ (q : Scopes). Rel E (c .hs .vars) q (σ .env) live) sp h)
+
       at : (v : ℕ) (σ : St) (live : List Slot) → Rel E (c .hs .vars) ns₁ (σ .env) live → Fits κ v → Unwind (layout E) κ (inScopes ns₁ x) ns b b′ → Ev E (Done E c true ns ns κ b′ (value v (closedSt (length ns) σ))) (conf (ready b (mach E (push κ v) (c .hs) live)) (σ .world))
       at v σ live h f (inl z) = done (take (depth ns) live, ap₂ (λ (y : ℕ) (l : List Slot). conf (ready y (mach E (push κ v) (c .hs) l)) (σ .world)) (z .1) (sym (take-all (depth ns) live (let e = rel-length E h in let g = z .0 in omega arith))), shut σ live h, f)
       at v σ live h f (inr i) =
           let mt : Meets (inScopes ns₁ x) (c .hs .its) (c .hs .hands) live = record { its = lo .its; hands = lo .hands; slots = rel-length E h } in
           let le : depth ns ≤ length live = let e = rel-length E h in let g = ap depth sp in omega arith in
           unwound mt (push-length κ v) (op i) le (done (take (depth ns) live, refl, shut σ live h, f))
+
       go : (r : Out) (d : Conf) → Exit E c false ns ns₁ κ b r d → Ev E (Done E c true ns ns κ b′ (closing (length ns) r)) d
       go (value v σ) d q = subst (λ (y : Conf). Ev E (Done E c true ns ns κ b′ (value v (closedSt (length ns) σ))) y) (sym (q .1)) (at v σ (q .0) (q .2) (q .3) u)
-      go (broke v σ) d q = done (brk (c .lp) v σ d (lo .low) (q .0), one-less (σ .env) (q .1))
-      go (continued σ) d q = done (cnt (c .lp) σ d (lo .low) (q .0), one-less (σ .env) (q .1))
+      go (broke v σ) d q = done (brk (c .lp) v σ d (lo .low) (q .0), keep-length (σ .env) (length ns) (q .1))
+      go (continued σ) d q = done (cnt (c .lp) σ d (lo .low) (q .0), keep-length (σ .env) (length ns) (q .1))
       go (returned v σ) d q = done q
-      go (fault h p σ) d q = done (q .0, q .1, q .2, q .3, kk (c .hs .vars) ns (σ .env) (take (depth ns) (q .2)) (omega arith) (q .4), one-less (σ .env) (q .5), q .6)
+      go (fault h p σ) d q = done (q .0, q .1, q .2, q .3, kk (c .hs .vars) ns (σ .env) (take (depth ns) (q .2)) (omega arith) (q .4), keep-length (σ .env) (length ns) (q .5), q .6)
       go (waits n A σ) d q = done q
       go spent d q = done q
 

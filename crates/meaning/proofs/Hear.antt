@@ -1,10 +1,8 @@
 -- Steps of the fed player, questions heard alike on both sides, and expressions.
-use mathlib.Core.Path.{_≡_, refl, sym, ap, ap₂, subst, subst₂, _∙_}
-use mathlib.Core.List.{List, [], _∷_, _++_}
+use mathlib.Core.Path.{_≡_, refl, sym, ap, subst, _∙_}
+use mathlib.Core.List.{List, [], _∷_}
 use mathlib.Core.Bool.{Bool, true, false, cond}
-use Prim.Native.Nat.{ℕ, zero, suc, _+_, _-_, _≤_, _<_}
-use native.Mathlib.Omega.{arith}
-use lib.ListN.{length}
+use Prim.Native.Nat.{ℕ, suc}
 use Rattle.std.specs.declared.option.Option.{Option}
 use Rattle.std.specs.declared.option.Option.the-variants.{Some, None}
 use Rattle.records.specs.declared.types.Position.{Position}
@@ -15,18 +13,17 @@ use Rattle.code.specs.declared.talk.Handler.{Handler}
 use Rattle.code.specs.declared.talk.Question.{Question}
 use Rattle.code.specs.declared.talk.Purpose.{Purpose}
 use Rattle.code.specs.declared.talk.Purpose.the-variants.{Push, Store, Assigned, Open, Advance}
-use Rattle.code.specs.declared.talk.Answer.{Answer}
 use Rattle.code.specs.declared.talk.Answer.the-variants.{Value, Done as DoneAnswer, Fault}
-use Rattle.code.specs.declared.talk.End.the-variants.{Value as Gives, Fault as Faults}
+use Rattle.code.specs.declared.talk.End.the-variants.{Value as Gives}
 use Rattle.meaning.specs.Machine.{Locals, Mach, Effect, Effect.next, Effect.goto, Effect.ask, Effect.fault as faults, Effect.give, Effect.stuck, withSlots, exec, takes, resume}
 use Rattle.meaning.specs.Throws.{catches}
-use Rattle.meaning.specs.Calls.{State, State.ready, State.waits as waiting, State.ended, State.halted, instrAt, landed, after, step}
-use Rattle.meaning.specs.Reading.{Bytes, Ask, Ask.expression, Ask.name, Event, Event.value as valueE, Event.done as doneE, Event.fault as faultE, Event.put as putE, valued, doable, Cell, Scope, seek, setsInner, World, St, st, Around, Heard, Heard.value as heardV, Heard.done as heardD, Heard.fault as heardF, Heard.waits as heardW, hears, asks, Truth, Truth.yes, Truth.no, Truth.neither, truth, Reading, Reading.unit as unitR, Reading.yes as yesR, Reading.opaque as opaqueR, Reading.no as noR, Reading.name as nameR, Reading.all as allR, Reading.any as anyR, Items, Items.end, Items.item, Got, Got.got, Got.bad, Got.dry, gotten, bindGot, decides, reads, reading, goesThrough}
-use Rattle.meaning.specs.Fed.{Tables, inWords, findSlot, pokeSlot, Conf, conf, noted, fedBy, answeredBy, hearing, move, Comes, Comes.here, Comes.then, Goes}
+use Rattle.meaning.specs.Calls.{State, State.ready, State.waits as waiting, State.ended, instrAt, landed, after, step}
+use Rattle.meaning.specs.Reading.{Ask, Ask.expression, Ask.name, Event, Event.value as valueE, Event.done as doneE, Event.fault as faultE, Event.put as putE, valued, doable, Cell, Scope, seek, setsInner, World, St, st, Around, Heard, Heard.value as heardV, Heard.done as heardD, Heard.fault as heardF, Heard.waits as heardW, hears, asks, Truth, Truth.yes, Truth.no, Truth.neither, truth, Reading, Reading.unit as unitR, Reading.yes as yesR, Reading.opaque as opaqueR, Reading.no as noR, Reading.name as nameR, Reading.all as allR, Reading.any as anyR, Items, Items.end, Items.item, Got, Got.got, Got.bad, Got.dry, gotten, bindGot, decides, reads, reading, goesThrough}
+use Rattle.meaning.specs.Fed.{inWords, findSlot, pokeSlot, Conf, conf, noted, answeredBy, move, Comes, Comes.here, Comes.then}
 use Rattle.meaning.specs.Agreement.{Heights, armed, heightsOf}
-use Rattle.meaning.proofs.Place.{Scopes, depth, Ctx, heights}
+use Rattle.meaning.proofs.Place.{Scopes, heights}
 use Rattle.meaning.proofs.Layouts.{Level}
-use Rattle.meaning.proofs.Rel.{Env, locals, Rel, rel-length, look-agrees, puts}
+use Rattle.meaning.proofs.Rel.{Env, locals, Rel, look-agrees, puts}
 
 -- ## The player's state by its parts
 
@@ -91,6 +88,7 @@ module _ {E : Env} where
     where
       lv : Lev E (conf (ready a m) w)
       lv = level-at i l
+
       go : (e : Effect) → step (E .code) (E .rows) a m ≡ after e a → After E Q e a b w → Ev E Q (conf (ready a m) w)
       go (next n) z t = then lv (moved E a m w (ready (suc a) n) z) (subst (λ (k : ℕ). Ev E Q (conf (ready k n) w)) (sym (i .to)) t)
       go (goto t n) z k = then lv (moved E a m w (ready t n) z) k
@@ -141,10 +139,13 @@ module _ {E : Env} where
     where
       k : Ask
       k = inWords (E .T) q
+
       w : World
       w = record { feed = f; asked = qs }
+
       on : (t : Bool) → valued k ≡ t → move (E .code) (E .rows) (E .T) (conf (waiting q u a (mach E vs F live)) (record { feed = valueE h ∷ f; asked = qs })) ≡ Some (answeredBy t (Value h) q u a (mach E vs F live) w)
       on t e = ap (λ (b : Bool). Some (answeredBy b (Value h) q u a (mach E vs F live) w)) (s .values h ∙ e)
+
       go : (t : Bool) → valued k ≡ t → Ev E (Hears E js ns vs F q u a (hears seek setsInner k (around F) f ss qs)) (conf (waiting q u a (mach E vs F live)) w)
           → Ev E (Hears E js ns vs F q u a (cond t (heardV h (st ss w)) (hears seek setsInner k (around F) f ss qs))) (conf (waiting q u a (mach E vs F live)) (record { feed = valueE h ∷ f; asked = qs }))
       go true e t = then (record { level = tt }) (on true e) (here (record { is = (live, e, refl, r) }))
@@ -153,10 +154,13 @@ module _ {E : Env} where
     where
       k : Ask
       k = inWords (E .T) q
+
       w : World
       w = record { feed = f; asked = qs }
+
       on : (t : Bool) → doable k ≡ t → move (E .code) (E .rows) (E .T) (conf (waiting q u a (mach E vs F live)) (record { feed = doneE ∷ f; asked = qs })) ≡ Some (answeredBy t DoneAnswer q u a (mach E vs F live) w)
       on t e = ap (λ (b : Bool). Some (answeredBy b DoneAnswer q u a (mach E vs F live) w)) (s .dones ∙ e)
+
       go : (t : Bool) → doable k ≡ t → Ev E (Hears E js ns vs F q u a (hears seek setsInner k (around F) f ss qs)) (conf (waiting q u a (mach E vs F live)) w)
           → Ev E (Hears E js ns vs F q u a (cond t (heardD (st ss w)) (hears seek setsInner k (around F) f ss qs))) (conf (waiting q u a (mach E vs F live)) (record { feed = doneE ∷ f; asked = qs }))
       go true e t = then (record { level = tt }) (on true e) (here (record { is = (live, e, refl, r) }))

@@ -2,34 +2,33 @@
 use mathlib.Core.Path.{_≡_, refl, sym, ap, ap₂, subst, subst₂, _∙_}
 use mathlib.Core.List.{List, [], _∷_, _++_}
 use mathlib.Core.Logic.{_⊎_, inl, inr}
-use mathlib.Core.Bool.{Bool, true, false, cond, _||_}
+use mathlib.Core.Bool.{Bool, true, false, cond}
 use Prim.Native.Nat.{ℕ, zero, suc, _+_, _-_, _≤_, _<_}
 use native.Mathlib.Omega.{arith}
 use lib.ListN.{length, take, length-drop, length-take}
-use lib.Seq.{take-take, take-all}
-use lib.Dec.{eqb, ltb, leb}
+use lib.Seq.{take-take}
+use lib.Dec.{leb}
 use borrow.Author.Tests.{le-leb, lt-ltb}
 use Rattle.std.specs.declared.option.Option.{Option}
 use Rattle.std.specs.declared.option.Option.the-variants.{Some, None}
 use Rattle.records.specs.declared.types.Position.{Position}
 use Rattle.records.specs.Tree.{nowhere, Exp}
 use Rattle.code.specs.declared.ops.Op.{Op}
-use Rattle.code.specs.declared.ops.Op.the-variants.{Jump, JumpIfFalse, UnwindTo, Tick, PopHandler}
+use Rattle.code.specs.declared.ops.Op.the-variants.{Jump, PopHandler}
 use Rattle.code.specs.declared.talk.Slot.{Slot}
 use Rattle.code.specs.declared.talk.Handler.{Handler}
-use Rattle.meaning.specs.Machine.{Mach, Effect, Effect.next, Effect.goto, Effect.ask, Effect.fault as faults, Effect.give, Effect.stuck, branch, exec}
-use Rattle.meaning.specs.Throws.{keep, roused, caught, restored, naming as namingM, fitting, landing, catches}
-use Rattle.meaning.specs.Calls.{State, State.ready, State.ended, landed, after}
+use Rattle.meaning.specs.Machine.{Mach, Effect, Effect.next, Effect.goto, Effect.stuck, branch, exec}
+use Rattle.meaning.specs.Throws.{keep, roused, caught, naming as namingM, landing, catches}
+use Rattle.meaning.specs.Calls.{State.ready, landed, after}
 use Rattle.meaning.specs.Reading.{Bytes, Scope, seek, setsInner, World, Truth, Truth.yes, Truth.no, Truth.neither, truth, reading, Got.got, Got.bad, Got.dry}
-use Rattle.meaning.specs.Run.{St, Got, Out, Out.value, Out.broke, Out.continued, Out.returned, Out.fault, Out.waits, Out.spent, bindG, bindV, closing, closed as closedSt, test, roundOn, again, rounds, catching}
+use Rattle.meaning.specs.Run.{St, Got, Out, Out.value, Out.broke, Out.continued, Out.returned, Out.fault, Out.waits, Out.spent, bindG, bindV, closing, roundOn, again, rounds, catching}
 use Rattle.meaning.specs.Fed.{Conf, conf, move}
-use Rattle.meaning.specs.Agreement.{Heights, heightsOf}
-use Rattle.meaning.proofs.Place.{Scopes, depth, Ctx, LoopAt, heights, one, inScopes, upTo, deeperLoop, inTryCode, Hop, Glue, Drop, Unwind, Leave, Blank, Break, Continue, DoTest}
-
-use Rattle.meaning.proofs.Slots.{keep-keep, keep-all, keep-none, keep-cons, Below, below-le}
-use Rattle.meaning.proofs.Rel.{Env, locals, Rel, rel-length, rel-scopes, closes, whole, Ends, Ends.same, Ends.under, ends-depth, dropTo, forgets, Over}
-use Rattle.meaning.proofs.Hear.{Frame, mach, around, Lev, Ev, Ins, moved, steps, next-then, hop}
-use Rattle.meaning.proofs.Exits.{Cx, upTill, push, Fits, Left, tossed, layout, BrokeAt, ContAt, Exit, Done, LowAt, Low, Meets, jumps, branch-is, push-length, level, actTo, act, op, meets, done, hops, dropped, glued, blanked, unwound, left, thrown, evaluated, tested, sequel, closed, outer, counted, led}
+use Rattle.meaning.specs.Agreement.{Heights}
+use Rattle.meaning.proofs.Place.{Scopes, depth, Ctx, LoopAt, heights, one, inScopes, deeperLoop, inTryCode, Glue, Drop, Leave, Break, Continue, DoTest}
+use Rattle.meaning.proofs.Slots.{keep-keep, keep-all, keep-length, keep-none, keep-cons, Below, below-le}
+use Rattle.meaning.proofs.Rel.{Env, Rel, rel-length, rel-scopes, closes, Ends.same, Ends.under, ends-depth, dropTo, forgets}
+use Rattle.meaning.proofs.Hear.{Frame, mach, around, Ev, Ins, moved, steps, next-then}
+use Rattle.meaning.proofs.Exits.{Cx, upTill, push, Fits, tossed, layout, BrokeAt, ContAt, Exit, Done, LowAt, Low, Meets, jumps, branch-is, push-length, level, actTo, act, op, meets, done, dropped, glued, blanked, left, thrown, evaluated, counted}
 
 -- ## Frames and contexts
 
@@ -148,6 +147,7 @@ module _ {E : Env} where
       this : ((Drop (layout E) κ X w x × Ins E (Jump top) nowhere (heights 0 X) x y) ⊎ ((k : ℕ) (σ : St) → NoValue (body k σ))) → (Drop (layout E) κ X w x × Ins E (Jump top) nowhere (heights 0 X) x y) ⊎ NoValue (body k σ)
       this (inl z) = inl z
       this (inr z) = inr (z k σ)
+
       go : ((σ : St) (live : List Slot) → Rel E (c .hs .vars) ns (σ .env) live → Ev E (Done E (upTill k c) true ns ns hv b (rounds body k σ)) (conf (ready top (mach E [] (c .hs) live)) (σ .world)))
           → (r : Out) → ((Drop (layout E) κ X w x × Ins E (Jump top) nowhere (heights 0 X) x y) ⊎ NoValue r) → (d : Conf) → Exit E (inner c (loop top b hv ns) k) true ns ns κ w r d
           → Ev E (Done E (upTill (suc k) c) true ns ns hv b (again r (rounds body k))) d
@@ -170,8 +170,6 @@ module _ {E : Env} where
   loopedFor g y it x X c body li lh ln bl dr j f zero σ live h = done tt
   loopedFor {ns} {κ} {hv} {top} {w} {b} g y it x X c body li lh ln bl dr j f (suc k) σ live h = next-then (f k σ live h) (λ d q. go (loopedFor g y it x X c body li lh ln bl dr j f k) (body k σ) d (q .is))
     where
-      one-less : (ss : List Scope) → length ss ≡ suc (length ns) → length (keep (length ns) ss) ≡ length ns
-      one-less ss z = simp length-drop (omega arith)
       go : ((σ : St) (live : List Slot) → Rel E (depth ns ∷ c .hs .vars) ((x ∷ []) ∷ ns) (σ .env) live → Ev E (Done E (upTill k c) true ns ns hv b (closing (length ns) (rounds body k σ))) (conf (ready top (mach E [] (moreIts (c .hs) it (depth ns)) live)) (σ .world)))
           → (r : Out) (d : Conf) → Exit E (innerFor c (loopFor top b hv x ns) it (depth ns) k) true ((x ∷ []) ∷ ns) ((x ∷ []) ∷ ns) κ w r d
           → Ev E (Done E (upTill (suc k) c) true ns ns hv b (closing (length ns) (again r (rounds body k)))) d
@@ -183,8 +181,15 @@ module _ {E : Env} where
       go rec (returned v ρ) d q = done q
       go rec (fault h p ρ) d q =
           let z = closes E {js = c .hs .vars} bl (forgets E 1 (depth ns ∷ c .hs .vars) refl (q .4)) in
-          done (q .0, q .1, q .2, q .3, subst₂ (λ (s : List Scope) (l : List Slot). Rel E (c .hs .vars) ns s l) (keep-keep (length ns) (suc (length ns)) (ρ .env) (omega arith) ∙ sym (keep-keep (length ns) (length ns) (ρ .env) (omega arith))) (take-take (depth ns) (1 + depth ns) (q .2) (omega arith)) z, one-less (ρ .env) (q .5)
-            , sym (keep-keep (length (c .hs .its)) (suc (length (c .hs .its))) (q .1) (omega arith)) ∙ ap (keep (length (c .hs .its))) (q .6) ∙ keep-cons it (c .hs .its))
+          done (
+            q .0,
+            q .1,
+            q .2,
+            q .3,
+            subst₂ (λ (s : List Scope) (l : List Slot). Rel E (c .hs .vars) ns s l) (keep-keep (length ns) (suc (length ns)) (ρ .env) (omega arith) ∙ sym (keep-keep (length ns) (length ns) (ρ .env) (omega arith))) (take-take (depth ns) (1 + depth ns) (q .2) (omega arith)) z,
+            keep-length (ρ .env) (length ns) (q .5),
+            sym (keep-keep (length (c .hs .its)) (suc (length (c .hs .its))) (q .1) (omega arith)) ∙ ap (keep (length (c .hs .its))) (q .6) ∙ keep-cons it (c .hs .its),
+          )
       go rec (waits n A ρ) d q = done q
       go rec spent d q = done q
 
@@ -193,7 +198,7 @@ module _ {E : Env} where
       → Ev E (Done E (here (Some l) bl cl F n) true (i ∷ r) (i ∷ r) false b (broke v σ)) (conf (ready a (mach E (push (l .hasv) v) F live)) (σ .world))
   broken {i} {r} {bl} {F} {v} {live} c l a z lo h fit =
       left (inScopes (i ∷ r) c) F bl (l .hasv) l (l .bdrops) (l .bns) z (push-length (l .hasv) v) (meets (inScopes (i ∷ r) c) lo h) (lo .low .2) (lo .low .3) (let e = ends-depth (lo .low .0) in omega arith)
-        (λ u x j mt. act mt (push-length (l .hasv) v) j (done ((take (depth (l .bns)) live, refl, dropTo E (under (lo .low .0)) (lo .low .8) (forgets E (l .bdrops) (F .vars) (lo .low .6) h), fit), rel-scopes E h)))
+      (λ u x j mt. act mt (push-length (l .hasv) v) j (done ((take (depth (l .bns)) live, refl, dropTo E (under (lo .low .0)) (lo .low .8) (forgets E (l .bdrops) (F .vars) (lo .low .6) h), fit), rel-scopes E h)))
 
   pub breaks : {i : List Bytes} {r : Scopes} {bl cl F : Frame} {b n : ℕ} {σ : St} {live : List Slot} (c : Ctx) (L : Option LoopAt) (a : ℕ) → Break (layout E) L None (inScopes (i ∷ r) c) a → Low L (c .its) (c .hands) F bl cl r → Rel E (F .vars) (i ∷ r) (σ .env) live
       → Ev E (Done E (here L bl cl F n) true (i ∷ r) (i ∷ r) false b (broke 0 σ)) (conf (ready a (mach E [] F live)) (σ .world))
@@ -205,14 +210,14 @@ module _ {E : Env} where
   breaksWith c None e a z lo h = absurd z
   breaksWith {i} {r} {bl} {cl} {F} {b} {n} c (Some l) e a z lo h = evaluated (e .number) (z .3) h (λ v σ′ live′ h′. act (meets (inScopes (i ∷ r) c) lo h′) refl (op (z .4))
       (subst (λ (κ : Bool). Ev E (Done E (here (Some l) bl cl F n) true (i ∷ r) (i ∷ r) false b (broke v σ′)) (conf (ready (z .1) (mach E (push κ v) F live′)) (σ′ .world))) (z .2)
-        (broken c l (z .1) (subst (λ (κ : Bool). Leave (layout E) κ l (l .bdrops) (l .bns) (inScopes (i ∷ r) c) (z .1) (l .brk)) (sym (z .2)) (z .5)) lo h′ (subst (λ (κ : Bool). Fits κ v) (sym (z .2)) tt))))
+      (broken c l (z .1) (subst (λ (κ : Bool). Leave (layout E) κ l (l .bdrops) (l .bns) (inScopes (i ∷ r) c) (z .1) (l .brk)) (sym (z .2)) (z .5)) lo h′ (subst (λ (κ : Bool). Fits κ v) (sym (z .2)) tt))))
 
   pub continues : {i : List Bytes} {r : Scopes} {bl cl F : Frame} {b n : ℕ} {σ : St} {live : List Slot} (c : Ctx) (L : Option LoopAt) (a : ℕ) → Continue (layout E) L (inScopes (i ∷ r) c) a → Low L (c .its) (c .hands) F bl cl r → Rel E (F .vars) (i ∷ r) (σ .env) live
       → Ev E (Done E (here L bl cl F n) true (i ∷ r) (i ∷ r) false b (continued σ)) (conf (ready a (mach E [] F live)) (σ .world))
   continues c None a z lo h = absurd z
   continues {i} {r} {bl} {cl} {F} {live} c (Some l) a z lo h =
       left (inScopes (i ∷ r) c) F cl false l (l .cdrops) (l .cns) z refl (meets (inScopes (i ∷ r) c) lo h) (lo .low .4) (lo .low .5) (let e = ends-depth (lo .low .1) in omega arith)
-        (λ u x j mt. done ((take (depth (l .cns)) live, level mt refl j, jumped (mach E [] cl (take (depth (l .cns)) live)) j refl, dropTo E (under (lo .low .1)) (lo .low .9) (forgets E (l .cdrops) (F .vars) (lo .low .7) h)), rel-scopes E h))
+      (λ u x j mt. done ((take (depth (l .cns)) live, level mt refl j, jumped (mach E [] cl (take (depth (l .cns)) live)) j refl, dropTo E (under (lo .low .1)) (lo .low .9) (forgets E (l .cdrops) (F .vars) (lo .low .7) h)), rel-scopes E h))
 
   -- ## The end of a `do`
   pub doing : {m top b : ℕ} {hv : Bool} {v k : ℕ} {κ : Bool} {w : ℕ} {σ : St} {live : List Slot} (X : Ctx) (c : Cx) (f : ℕ) (p : Position) (u : Bool) → length (c .hs .its) ≡ X .its → length (c .hs .hands) ≡ X .hands → DoTest (layout E) u p X top m f → Glue (layout E) false hv X f b → Rel E (c .hs .vars) (X .ns) (σ .env) live
@@ -221,8 +226,10 @@ module _ {E : Env} where
     where
       mt : Meets X (c .hs .its) (c .hs .hands) live
       mt = record { its = li; hands = lh; slots = rel-length E h }
+
       away : Ev E (Done E (inner c (loop top b hv (X .ns)) k) true (X .ns) (X .ns) κ w (broke 0 σ)) (conf (ready f (mach E [] (c .hs) live)) (σ .world))
       away = glued false hv 0 g mt refl (λ fit. done ((live, refl, keptAll h, fit), rel-scopes E h))
+
       go : (u : Bool) → DoTest (layout E) u p X top m f → (y : Truth) → ((t : ℕ) → branch false t p v (mach E [] (c .hs) live) ≡ jumps y t p (mach E [] (c .hs) live))
           → Ev E (Done E (inner c (loop top b hv (X .ns)) k) true (X .ns) (X .ns) κ w (roundOn u y p σ)) (conf (ready m (mach E (v ∷ []) (c .hs) live)) (σ .world))
       go false z yes q = actTo _ mt refl (op (z .2)) (q f) (done ((live, level mt refl (op (z .3)), jumped (mach E [] (c .hs) live) (op (z .3)) refl, keptAll h), rel-scopes E h))
@@ -262,8 +269,10 @@ module _ (E : Env) where
     where
       K : Handler
       K = record { armed = false; target = t; name = nm; values = 0; slots = d; iters = length il }
+
       fit : leb 0 (length vs) ≡ true → leb d (length live) ≡ true → leb (length il) (length is) ≡ true → cond (cond (leb 0 (length vs)) (cond (leb d (length live)) (leb (length il) (length is)) false) false) (namingM nm t h (tossed E (keep 0 vs) (keep (length il) is) (K ∷ hs) (take d live))) stuck ≡ namingM nm t h (tossed E (keep 0 vs) (keep (length il) is) (K ∷ hs) (take d live))
       fit e₁ e₂ e₃ = ap₂ (λ (a b : Bool). cond (cond a (cond b (leb (length il) (length is)) false) false) (namingM nm t h (tossed E (keep 0 vs) (keep (length il) is) (K ∷ hs) (take d live))) stuck) e₁ e₂ ∙ ap (λ (a : Bool). cond a (namingM nm t h (tossed E (keep 0 vs) (keep (length il) is) (K ∷ hs) (take d live))) stuck) e₃
+
       name : (nm′ : Option ℕ) → NameRoom E nm′ d → namingM nm′ t h (tossed E [] il (K ∷ hs) (take d live)) ≡ goto t (tossed E [] il (K ∷ hs) (withName nm′ h (take d live)))
       name None r = refl
       name (Some x) r =
@@ -309,6 +318,6 @@ module _ {E : Env} where
           let le : depth (X .ns) ≤ length (y .2) = let g = length-take (depth (X .ns)) (y .2) in omega arith in
           let e = lands E h p (y .0) (y .1) (F .its) c nm s (F .hands) (y .2) (omega arith) (y .6) (subst (λ (q : ℕ). NameRoom E nm q) (sym es) rm) in
           subst (λ (x : Conf). Ev E (Done E (here L bl cl F n) true (X .ns) (X .ns) κ b (k h σ)) x) (sym (y .3 ∙ ap (λ (g : Effect). conf (landed g) (σ .world)) e))
-            (f h σ (take s (y .2)) (subst (λ (q : ℕ). Rel E (F .vars) (X .ns) (σ .env) (take q (y .2))) (sym es) (kept (σ .env) (y .5) (y .4))))
+          (f h σ (take s (y .2)) (subst (λ (q : ℕ). Rel E (F .vars) (X .ns) (σ .env) (take q (y .2))) (sym es) (kept (σ .env) (y .5) (y .4))))
       go (waits q A σ) d y = done y
       go spent d y = done y

@@ -3,26 +3,26 @@
 use mathlib.Core.Path.{_≡_, refl, sym, ap, ap₂, subst, subst₂, _∙_}
 use mathlib.Core.List.{List, [], _∷_, _++_, append-assoc}
 use mathlib.Core.Bool.{Bool, true, false, cond, _&&_}
-use Prim.Native.Nat.{ℕ, zero, suc, _+_, _-_, _≤_, _<_}
+use Prim.Native.Nat.{ℕ, zero, suc, _+_, _≤_, _<_}
 use native.Mathlib.Omega.{arith}
-use lib.ListN.{length, take, drop, set, getD, length-drop, length-append, length-take}
+use lib.ListN.{length, take, set, getD, length-append}
 use lib.Seq.{take-at, take-all, take-take}
 use lib.Dec.{eqb}
-use borrow.Author.Tests.{eqb-true, eqb-false, eq-eqb, ne-eqb}
+use borrow.Author.Tests.{eqb-true, eqb-false, eq-eqb}
 use Rattle.std.specs.declared.option.Option.{Option}
 use Rattle.std.specs.declared.option.Option.the-variants.{Some, None}
 use Rattle.code.specs.declared.ops.Instr.{Instr}
 use Rattle.code.specs.declared.ops.Row.{Row}
 use Rattle.code.specs.declared.talk.Slot.{Slot}
 use Rattle.meaning.specs.Machine.{Locals, slotAt, newestFrom, newest}
-use Rattle.meaning.specs.Calls.{lookup, rewritten, rewrittenAt, overwritten}
+use Rattle.meaning.specs.Calls.{rewritten, rewrittenAt}
 use Rattle.meaning.specs.Throws.{keep}
-use Rattle.meaning.specs.Reading.{Bytes, sameBytes, Cell, Scope, noScope, orElse, seek, sets, declares, rehandled, setsIn, setsInner}
+use Rattle.meaning.specs.Reading.{Bytes, sameBytes, Cell, Scope, noScope, orElse, seek, declares, setsIn, setsInner}
 use Rattle.meaning.specs.Fed.{Tables, nameAt, placeFrom, numberOf, cellOf, cellAt, findSlot, orSame, pokeAt, pokeSlot}
 use Rattle.meaning.specs.Writer.{Writer, Lawful}
 use Rattle.meaning.specs.Agreement.{Heights}
-use Rattle.meaning.proofs.Place.{Scopes, flat, depth, addName, resolveFrom, resolve, outside}
-use Rattle.meaning.proofs.Slots.{keep-keep, keep-all, keep-cons, first, look, lastOf, modHere, modify, newest-last, Agrees, Agrees′, last-is, newest-is, no-some, lookup-look, mod-none, look-++, modMark, mod-++, lastMark, last-++, changed, look-mod-same, look-mod-other, set-slot, Free, Firm, Below, firm-++, firm-take, firm-set, firm-above, below-le}
+use Rattle.meaning.proofs.Place.{Scopes, flat, depth, resolveFrom, resolve}
+use Rattle.meaning.proofs.Slots.{keep-keep, keep-all, keep-cons, first, look, lastOf, modHere, modify, newest-last, Agrees, last-is, newest-is, no-some, lookup-look, look-++, modMark, mod-++, lastMark, last-++, changed, look-mod-same, look-mod-other, set-slot, Free, Firm, Below, firm-++, firm-take, firm-set, firm-above, below-le}
 
 -- What the simulation is about: set code, its tables and its writer, and what is known of them.
 pub record Env : Type 0 where
@@ -255,6 +255,7 @@ module _ (E : Env) where
       nothing : (xs : List Slot) → xs ++ [] ≡ xs
       nothing [] = refl
       nothing (x ∷ xs) = ap {B = List Slot} (λ q. x ∷ q) (nothing xs)
+
       none : (o : Option ℕ) → cells o [] ≡ None
       none None = refl
       none (Some x) = refl
@@ -264,6 +265,7 @@ module _ (E : Env) where
     where
       one : keep (length ns) (s ∷ ss) ≡ ss
       one = ap (λ (k : ℕ). keep k (s ∷ ss)) (sym (runs-scopes r)) ∙ keep-cons s ss
+
       two : take (depth ns) live ≡ rest
       two = ap (take (depth ns)) (p .all) ∙ take-at rest seg (depth ns) (runs-length r)
 
@@ -283,8 +285,10 @@ module _ (E : Env) where
     where
       new : Slot
       new = record { name = d; handle = h; constant = k }
+
       cell : Cell
       cell = record { handle = h; constant = k }
+
       one : (o : Option ℕ) → cells o (new ∷ []) ≡ cond (matches o d) (Some cell) None
       one None = refl
       one (Some z) = two (eqb d z)
@@ -292,15 +296,17 @@ module _ (E : Env) where
           two : (t : Bool) → cellOf (cond t (Some new) None) ≡ cond t (Some cell) None
           two true = refl
           two false = refl
+
       three : (t : Bool) (o : Option Cell) → orElse (cond t (Some cell) None) o ≡ cond t (Some cell) o
       three true o = refl
       three false o = refl
+
       go : {ss : List Scope} → Runs (n ∷ ns) ss live → Runs ((n ++ x ∷ []) ∷ ns) (declares x cell ss) (live ++ new ∷ [])
       go (scope {s} {rest} seg p q) = scope (seg ++ new ∷ [])
           (record {
             all = ap (λ (y : List Slot). y ++ new ∷ []) (p .all) ∙ append-assoc rest seg (new ∷ []);
             spelled = spell-++ seg n (new ∷ []) (x ∷ []) (p .spelled) (nm, tt);
-            looks = λ b. cells-++ (numberOf (E .T) b) seg (new ∷ []) ∙ ap₂ orElse (one (numberOf (E .T) b)) (p .looks b) ∙ three (matches (numberOf (E .T) b) d) (s b) ∙ ap (λ (t : Bool). cond t (Some cell) (s b)) (sym (same-number′ b nm))
+            looks = λ b. cells-++ (numberOf (E .T) b) seg (new ∷ []) ∙ ap₂ orElse (one (numberOf (E .T) b)) (p .looks b) ∙ three (matches (numberOf (E .T) b) d) (s b) ∙ ap (λ (t : Bool). cond t (Some cell) (s b)) (sym (same-number′ b nm));
           }) q
 
   -- ## A change of the newest slot of a name
@@ -313,6 +319,7 @@ module _ (E : Env) where
       this : (y : ℕ) → cellOf (look y seg) ≡ c → (t : Bool) → eqb z y ≡ t → cellOf (look y (modify z f seg)) ≡ cond t (cellOf (Some (f s))) c
       this y h true e = ap (λ (n : ℕ). cellOf (look n (modify z f seg))) (sym (eqb-true z y e)) ∙ ap cellOf (look-mod-same z f k seg ∙ ap (changed f) q)
       this y h false e = ap cellOf (look-mod-other z y f k (eqb-false z y e) seg) ∙ h
+
       go : (o : Option ℕ) → cells o seg ≡ c → cells o (modify z f seg) ≡ cond (matches o z) (cellOf (Some (f s))) c
       go None h = h
       go (Some y) h = this y h (eqb z y) refl
@@ -332,8 +339,9 @@ module _ (E : Env) where
           (record {
             all = ap (modify z (poked h)) (p .all) ∙ mod-++ z (poked h) rest seg ∙ ap (modMark z (poked h) rest seg) q;
             spelled = spell-mod z (poked h) (λ u. refl) seg n (p .spelled);
-            looks = λ b. looks-mod b x z (poked h) (λ u. refl) seg a (s b) e q (p .looks b)
+            looks = λ b. looks-mod b x z (poked h) (λ u. refl) seg a (s b) e q (p .looks b);
           }) r
+
       go : (o : Option ℕ) → numberOf (E .T) x ≡ o → Runs ns (setsInner x h ss) (modified o (poked h) rest) → Runs (n ∷ ns) (setsIn x h (s x) s ss (setsInner x h ss)) (modified o (poked h) live)
       go None e t = subst (λ (c : Option Cell). Runs (n ∷ ns) (setsIn x h c s ss (setsInner x h ss)) live) (ap (λ (o : Option ℕ). cells o seg) (sym e) ∙ p .looks x) (scope seg (record { all = p .all; spelled = p .spelled; looks = p .looks }) t)
       go (Some z) e t = subst (λ (c : Option Cell). Runs (n ∷ ns) (setsIn x h c s ss (setsInner x h ss)) (modify z (poked h) live)) (ap (λ (o : Option ℕ). cells o seg) (sym e) ∙ p .looks x) (in-run z e (look z seg) refl t)
@@ -350,9 +358,11 @@ module _ (E : Env) where
       at-slot : (i : ℕ) (s : Slot) → slotAt i live ≡ Some s → (t : Bool) → s .constant ≡ t → orSame (cond t None (Some (record { room = E .room; live = set live i (record { name = s .name; handle = h; constant = s .constant }) }))) (locals E live) ≡ locals E (set live i (record { name = s .name; handle = cond t (s .handle) h; constant = s .constant }))
       at-slot i s e true q = ap (locals E) (sym (set-slot i live s e))
       at-slot i s e false q = refl
+
       found : (z : ℕ) (o : Option ℕ) → Agrees z (poked h) live o → orSame (rewrittenAt o h (locals E live)) (locals E live) ≡ locals E (modify z (poked h) live)
       found z None g = ap (locals E) (sym (g .1))
       found z (Some i) g = ap (λ (u : Option Slot). orSame (rewritten i h u (locals E live)) (locals E live)) (g .1) ∙ at-slot i (g .0) (g .1) (g .0 .constant) refl ∙ ap (locals E) (g .3)
+
       go : (o : Option ℕ) → pokeAt o h (locals E live) ≡ locals E (modified o (poked h) live)
       go None = refl
       go (Some z) = found z (newest z live) (newest-is z (poked h) live)
@@ -382,6 +392,7 @@ module _ (E : Env) where
       some : (z : ℕ) (o : Option ℕ) → Agrees z (λ s. s) live o → seek x ss ≡ cellOf (look z live) → Resolved o x ss live
       some z None g e = e ∙ ap cellOf (g .0)
       some z (Some i) g e = (g .0, g .1, e ∙ ap cellOf (g .2))
+
       go : (o : Option ℕ) → seek x ss ≡ cells o live → Resolved (newestOf o 0 None live) x ss live
       go None e = e
       go (Some z) e = subst (λ (o : Option ℕ). Resolved o x ss live) (sym (newest-from z live)) (some z (newest z live) (newest-is z (λ s. s) live) e)
@@ -399,6 +410,7 @@ module _ (E : Env) where
           let e₁ : Some (g .0) ≡ Some s = sym (g .1) ∙ ap (λ (n : ℕ). slotAt n live) ji ∙ p in
           let e₂ : g .0 ≡ s = cc in
           sym (g .3) ∙ ap₂ (λ (n : ℕ) (u : Slot). set live n (poked h u)) ji e₂ ∙ ap (λ (t : Bool). set live i (record { name = s .name; handle = cond t (s .handle) h; constant = s .constant })) q
+
       go : (o : Option ℕ) → newestOf o 0 None live ≡ Some i → modified o (poked h) live ≡ set live i (record { name = s .name; handle = h; constant = s .constant })
       go None w = absurd (no-some w)
       go (Some z) w = same z (newest z live) (sym (newest-from z live) ∙ w) (newest-is z (poked h) live)
@@ -410,6 +422,7 @@ module _ (E : Env) where
     where
       cell : Cell
       cell = record { handle = h; constant = k }
+
       same : (z : ℕ) (o : Option ℕ) → o ≡ Some i → Agrees z (stored h k) live o → modify z (stored h k) live ≡ set live i (stored h k s)
       same z None w g = absurd (no-some w)
       same z (Some j) w g =
@@ -417,11 +430,13 @@ module _ (E : Env) where
           let e₁ : Some (g .0) ≡ Some s = sym (g .1) ∙ ap (λ (m : ℕ). slotAt m live) ji ∙ p in
           let e₂ : g .0 ≡ s = cc in
           sym (g .3) ∙ ap₂ (λ (m : ℕ) (u : Slot). set live m (stored h k u)) ji e₂
+
       -- the newest slot of the name is of the innermost run
       within : (z : ℕ) (rest seg : List Slot) → length rest ≡ depth ns → (a b : Option ℕ) → lastMark (length rest) a b ≡ Some i → Agrees z (stored h k) seg a → Agrees z (stored h k) rest b → (u : Slot) × (look z seg ≡ Some u)
       within z rest seg l (Some j) b w g g′ = (g .0, g .2)
       within z rest seg l None None w g g′ = absurd (no-some w)
       within z rest seg l None (Some j) w g g′ = let ji : j ≡ i = cc in let lt = g′ .4 in absurd (omega arith)
+
       go : (o : Option ℕ) → numberOf (E .T) x ≡ o → newestOf o 0 None live ≡ Some i → {ss : List Scope} → Runs (n ∷ ns) ss live → Runs (n ∷ ns) (declares x cell ss) (set live i (stored h k s))
       go None q w t = absurd (no-some w)
       go (Some z) q w (scope {s = sc} {rest} seg pt t) =
@@ -431,7 +446,7 @@ module _ (E : Env) where
           (record {
             all = sym (same z (newest z live) w′ (newest-is z (stored h k) live)) ∙ ap (modify z (stored h k)) (pt .all) ∙ mod-++ z (stored h k) rest seg ∙ ap (modMark z (stored h k) rest seg) (v .1);
             spelled = spell-mod z (stored h k) (λ u. refl) seg n (pt .spelled);
-            looks = λ b. looks-mod b x z (stored h k) (λ u. refl) seg (v .0) (sc b) q (v .1) (pt .looks b)
+            looks = λ b. looks-mod b x z (stored h k) (λ u. refl) seg (v .0) (sc b) q (v .1) (pt .looks b);
           }) t
 
   -- The slot of such a name.
@@ -449,13 +464,17 @@ module _ (E : Env) where
   pub shares : {js : List ℕ} {x : Bytes} {ns : Scopes} {ss : List Scope} {live : List Slot} (h : ℕ) → Rel (depth ns ∷ js) ((x ∷ []) ∷ ns) ss live
       → (s : Slot) × (slotAt (depth ns) live ≡ Some s) × Rel (depth ns ∷ js) ((x ∷ []) ∷ ns) (declares x (record { handle = h; constant = false }) ss) (set live (depth ns) (record { name = s .name; handle = h; constant = s .constant }))
   shares {js} {x} {ns} {ss} {live} h r =
-      let s = r .firm .0 .0 in let p = r .firm .0 .1 in let q = r .firm .0 .2 in
-      (s, p, subst (λ (t : Bool). Rel (depth ns ∷ js) ((x ∷ []) ∷ ns) (declares x (record { handle = h; constant = false }) ss) (set live (depth ns) (record { name = s .name; handle = h; constant = t }))) (sym q)
-        (stores-rel x h false (depth ns) s own (omega arith) p (firm-set (depth ns ∷ js) (depth ns) live s (stored h false s) p (sym q) (r .firm)) r))
+      let s = r .firm .0 .0 in let p = r .firm .0 .1 in let q = r .firm .0 .2 in (
+        s,
+        p,
+        subst (λ (t : Bool). Rel (depth ns ∷ js) ((x ∷ []) ∷ ns) (declares x (record { handle = h; constant = false }) ss) (set live (depth ns) (record { name = s .name; handle = h; constant = t }))) (sym q)
+            (stores-rel x h false (depth ns) s own (omega arith) p (firm-set (depth ns ∷ js) (depth ns) live s (stored h false s) p (sym q) (r .firm)) r),
+      )
     where
       flat-length : (ns : Scopes) → length (flat ns) ≡ depth ns
       flat-length [] = refl
       flat-length (n ∷ ns) = length-append (flat ns) n ∙ let z = flat-length ns in omega arith
+
       own : resolve x ((x ∷ []) ∷ ns) ≡ Some (depth ns)
       own = resolve-own x 0 None (flat ns) ∙ ap {B = Option ℕ} Some (let z = flat-length ns in omega arith)
 

@@ -1,33 +1,30 @@
 -- The simulation: wherever a script's code stands, the fed player follows the tree.
-use mathlib.Core.Path.{_≡_, refl, sym, ap, ap₂, subst, subst₂, _∙_}
+use mathlib.Core.Path.{_≡_, refl, sym, ap, subst, _∙_}
 use mathlib.Core.List.{List, [], _∷_, _++_}
-use mathlib.Core.Bool.{Bool, true, false, cond, _||_}
-use Prim.Native.Nat.{ℕ, zero, suc, _+_, _-_, _≤_, _<_, max}
+use mathlib.Core.Bool.{Bool, true, false, cond}
+use Prim.Native.Nat.{ℕ, zero, suc, _≤_}
 use native.Mathlib.Omega.{arith}
-use lib.ListN.{length}
 use lib.Dec.{eqb}
-use Rattle.std.specs.declared.option.Option.{Option}
-use Rattle.std.specs.declared.option.Option.the-variants.{Some, None}
-use Rattle.records.specs.Tree.{nowhere, Head, Head.noop, Head.var, Head.expr, Head.call, Head.assign, Head.other, Head.block, Head.try, Head.for, Head.if, Head.while, Head.doLoop, Head.break, Head.continue, Head.return, Head.throw, Tree, Tree.node, Forest, Forest.nil, Forest.more, Stmt, Block}
+use Rattle.std.specs.declared.option.Option.the-variants.{None}
+use Rattle.records.specs.Tree.{nowhere, Head, Head.noop, Head.var, Head.expr, Head.call, Head.assign, Head.other, Head.block, Head.try, Head.for, Head.if, Head.while, Head.doLoop, Head.break, Head.continue, Head.return, Head.throw, Tree.node, Forest.nil, Forest.more, Stmt, Block}
 use Rattle.code.specs.declared.ops.Instr.{Instr}
 use Rattle.code.specs.declared.ops.Row.{Row}
 use Rattle.code.specs.declared.ops.Op.the-variants.{Return}
 use Rattle.code.specs.declared.talk.Slot.{Slot}
 use Rattle.code.specs.declared.talk.End.the-variants.{Value as Gives}
 use Rattle.meaning.specs.Calls.{State.ready, State.ended, empty}
-use Rattle.meaning.specs.Reading.{Bytes, Scope, noScope, Event, World, st}
-use Rattle.meaning.specs.Run.{St, Out, Out.value, Out.broke, Out.continued, Out.returned, Out.fault, Out.waits, Out.spent, opened, Running, runHead, run, runList, runScript}
+use Rattle.meaning.specs.Reading.{Bytes, noScope, Event, st}
+use Rattle.meaning.specs.Run.{St, Out, Out.value, Out.broke, Out.continued, Out.returned, Out.fault, Out.waits, Out.spent, opened, run, runList, runScript}
 use Rattle.meaning.specs.Breaks.{hasBreakValue}
-use Rattle.meaning.specs.Fed.{Tables, nameAt, numberOf, Conf, conf, Comes, Comes.here, Comes.then, Goes}
-use Rattle.meaning.specs.Writer.{Writer, Lawful}
+use Rattle.meaning.specs.Fed.{Tables, Conf, conf, Comes, Comes.here, Comes.then, Goes}
+use Rattle.meaning.specs.Writer.{Writer}
 use Rattle.meaning.specs.Agreement.{Heights}
-use Rattle.meaning.proofs.Place.{Scopes, depth, addName, after, afterList, Ctx, topCtx, heights, inScopes, kind, kindHead, kindList, deep, deepHead, deepList, CodeHead, Scoped, Code, CodeList, CodeScript, Checks, Drop, Glue}
+use Rattle.meaning.proofs.Place.{Scopes, addName, after, afterList, Ctx, topCtx, heights, inScopes, kind, kindList, deep, deepList, Scoped, Code, CodeList, CodeScript, Checks, Glue}
 use Rattle.meaning.proofs.Layouts.{Level, Follows, Simulation}
-use Rattle.meaning.proofs.Slots.{Below}
-use Rattle.meaning.proofs.Rel.{Env, Rel, Runs, Runs.bottom, rel-length, rel-scopes, opens}
+use Rattle.meaning.proofs.Rel.{Env, Rel, Runs.bottom, rel-length, rel-scopes, opens}
 use Rattle.meaning.proofs.Hear.{Frame, mach, around, Lev, Ev, Ins, next-then, hop}
-use Rattle.meaning.proofs.Exits.{push, Fits, layout, Exit, Done, Low, Meets, act, op, meets, done, dropped, glued, sequel, closed, outer, lives}
-use Rattle.meaning.proofs.Loops.{here as hereCx, Space, low-under, continues}
+use Rattle.meaning.proofs.Exits.{push, Fits, layout, Done, Low, Meets, act, op, meets, done, dropped, glued, sequel, closed, outer, lives}
+use Rattle.meaning.proofs.Loops.{here as hereCx, Space, continues}
 use Rattle.meaning.proofs.Heads.{Does, Blk, sim-noop, sim-var, sim-expr, asked-whole, sim-assign, sim-block, sim-try, sim-for, sim-if, sim-while, sim-do, sim-break, sim-return, sim-throw}
 
 -- ## The scope that a list of statements stands in grows, those around it stay
@@ -107,9 +104,9 @@ module _ (E : Env) where
   listed s B f g k κ v c i r bl cl F a b n σ live z fit lo sp h =
       let p = after-shape i r s in
       dropped κ v (z .3) (meets (inScopes (i ∷ r) c) lo h) (checked k (z .4) (
-        sequel (outer (lo .base) (f c i r bl cl F (z .1) (z .2) n σ live (z .5) lo (record { rh = (let y = sp .rh in omega arith); ri = (let y = sp .ri in omega arith) }) h))
-          (λ u σ′ live′ h′ fit′. subst (λ (q : Scopes). Ev E (Done E (hereCx (c .loop) bl cl F n) false r (afterList q B) (kindList (kind s) B) b (runList (E .W .reading) B u (around F) n σ′)) (conf (ready (z .2) (mach E (push (kind s) u) F live′)) (σ′ .world))) (sym (p .1))
-            (g k (kind s) u c (p .0) r bl cl F (z .2) b n σ′ live′ (subst (λ (q : Scopes). CodeList (layout E) B k (kind s) (inScopes q c) (z .2) b) (p .1) (z .6)) fit′ lo (record { rh = (let y = sp .rh in omega arith); ri = (let y = sp .ri in omega arith) }) (subst (λ (q : Scopes). Rel E (F .vars) q (σ′ .env) live′) (p .1) h′)))))
+      sequel (outer (lo .base) (f c i r bl cl F (z .1) (z .2) n σ live (z .5) lo (record { rh = (let y = sp .rh in omega arith); ri = (let y = sp .ri in omega arith) }) h))
+      (λ u σ′ live′ h′ fit′. subst (λ (q : Scopes). Ev E (Done E (hereCx (c .loop) bl cl F n) false r (afterList q B) (kindList (kind s) B) b (runList (E .W .reading) B u (around F) n σ′)) (conf (ready (z .2) (mach E (push (kind s) u) F live′)) (σ′ .world))) (sym (p .1))
+      (g k (kind s) u c (p .0) r bl cl F (z .2) b n σ′ live′ (subst (λ (q : Scopes). CodeList (layout E) B k (kind s) (inScopes q c) (z .2) b) (p .1) (z .6)) fit′ lo (record { rh = (let y = sp .rh in omega arith); ri = (let y = sp .ri in omega arith) }) (subst (λ (q : Scopes). Rel E (F .vars) q (σ′ .env) live′) (p .1) h′)))))
     where
       checked : {Q : Conf → Type 0} (k : Bool) → Checks (layout E) k (inScopes (i ∷ r) c) (z .0) (z .1) → Ev E Q (conf (ready (z .1) (mach E [] F live)) (σ .world)) → Ev E Q (conf (ready (z .0) (mach E [] F live)) (σ .world))
       checked false e t = hop e t
@@ -162,8 +159,8 @@ module _ (E : Env) where
   unfolding bare
   followed k B dp z f n =
       finished B n (z .0) (z .1) (z .2) (conf (ready 0 (empty (E .room))) (record { feed = f; asked = [] })) (z .4) (op (z .5)) (runScript (E .W .reading) B f n)
-        (simL E B k false 0 topCtx [] [] bare bare bare 0 (z .0) n (st (noScope ∷ []) (record { feed = f; asked = [] })) [] (z .3) refl
-          (record { low = tt; base = tt; its = refl; hands = refl }) (record { rh = omega arith; ri = omega arith }) (opens E (record { runs = bottom; firm = tt })))
+      (simL E B k false 0 topCtx [] [] bare bare bare 0 (z .0) n (st (noScope ∷ []) (record { feed = f; asked = [] })) [] (z .3) refl
+      (record { low = tt; base = tt; its = refl; hands = refl }) (record { rh = omega arith; ri = omega arith }) (opens E (record { runs = bottom; firm = tt })))
 
 -- The fed player follows the tree, wherever set code of a lawful writer stands, at the heights of its places.
 pub simulation : (code : List Instr) (rows : List Row) (T : Tables) (W : Writer) (room : ℕ) (H : ℕ → Heights) (outside : ℕ → Bool) → Simulation code rows T W room H outside

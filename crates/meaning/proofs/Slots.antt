@@ -8,7 +8,7 @@ use native.Mathlib.Nat.{sub-zero}
 use lib.ListN.{length, take, drop, set, length-drop}
 use lib.Seq.{drop-drop, drop-length}
 use lib.Dec.{eqb}
-use borrow.Author.Tests.{eqb-true, eqb-false, eq-eqb, ne-eqb}
+use borrow.Author.Tests.{eqb-true, ne-eqb}
 use Rattle.std.specs.declared.option.Option.{Option}
 use Rattle.std.specs.declared.option.Option.the-variants.{Some, None}
 use Rattle.code.specs.declared.talk.Slot.{Slot}
@@ -32,6 +32,9 @@ module _ {ℓ} {A : Type ℓ} where
 
   pub keep-cons : (x : A) (e : List A) → keep (length e) (x ∷ e) ≡ e
   keep-cons x e = let z : suc (length e) - length e ≡ 1 = omega arith in rw z
+
+  pub keep-length : (e : List A) (d : ℕ) → length e ≡ suc d → length (keep d e) ≡ d
+  keep-length e d h = simp length-drop (omega arith)
 
 -- ## The newest slot of a name
 
@@ -155,6 +158,7 @@ mod-++ x f (a ∷ xs) ys = ap₂ (λ (lk : Option Slot) (md : List Slot). modHer
     none None true = refl
     none None false = refl
     none (Some z) t = refl
+
     go : (o : Option Slot) → modHere (first o (look x xs)) (eqb (a .name) x) f a (xs ++ ys) (modMark x f xs ys o) ≡ modMark x f (a ∷ xs) ys o
     go None = none (look x xs) (eqb (a .name) x)
     go (Some z) = refl

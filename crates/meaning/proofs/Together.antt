@@ -17,6 +17,8 @@ use Rattle.meaning.proofs.Accepts.{fits-room, all-known, set-accepts}
 use Rattle.meaning.proofs.Setting.{settingStands}
 use Rattle.meaning.proofs.Sim.{simulation}
 use Rattle.meaning.proofs.CallsAgree.{agreement}
+use Rattle.meaning.proofs.Declines.{declining, count-right}
+use Rattle.meaning.proofs.Suited.{calls-suited}
 
 pub whole : LoweringStands → WholeAgreement
 whole lowers R m s W room codeRoom places accepted lowered law set fit =
@@ -29,5 +31,12 @@ whole lowers R m s W room codeRoom places accepted lowered law set fit =
     let M = settingStands ops rows T W (s .deepest) room (L .heights) (R .keep) B (all-known W rows codeRoom ops (A .1)) (A .0) (fits-room room (s .deepest) fit) (L .code) in
     let d = one-tree R accepted .stands .depth in
     let h = deep-height B in
-    agreement ops rows T W room (R .keep) B M (L .distinct)
-    (simulation (setCode W rows ops) rows T W room (M .heights) (M .outside) (length (R .exprs)) (R .keep) B law (L .distinct) (omega arith) (M .stands))
+    let code = setCode W rows ops in
+    let n = length (T .names) in
+    record {
+      agreement = agreement ops rows T W room (R .keep) B M (L .distinct)
+        (simulation code rows T W room (M .heights) (M .outside) (length (R .exprs)) (R .keep) B law (L .distinct) (omega arith) (M .stands));
+      declines = λ cs c. declining code rows n c _;
+      counts = λ cs k. count-right code rows n k _;
+      suited = λ cs. calls-suited code rows n room cs
+    }
