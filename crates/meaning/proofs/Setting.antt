@@ -91,7 +91,7 @@ module _ (W : Writer) (rows : List Row) where
 
   -- ## The code
 
-  piece-length : (μ : ℕ → ℕ) (i at : ℕ) (x : Instr) (o : Option ℕ) → length (pieceOf W rows μ at x o) ≡ widthOf W rows o
+  pub piece-length : (μ : ℕ → ℕ) (i at : ℕ) (x : Instr) (o : Option ℕ) → length (pieceOf W rows μ at x o) ≡ widthOf W rows o
   piece-length μ i at x None = refl
   piece-length μ i at x (Some e) = shiftAll-length at (W .segment e)
 
