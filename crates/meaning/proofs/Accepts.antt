@@ -30,7 +30,7 @@ fits-room room deepest e = go (leb deepest room) refl e
 -- ## Setting
 
 module _ (W : Writer) (rows : List Row) where
-  no-first : (a b : Option ℕ) → orNext W rows a b ≡ None → (a ≡ None) × (b ≡ None)
+  no-first : (a b : Option ℕ) → orNext a b ≡ None → (a ≡ None) × (b ≡ None)
   no-first None b e = (refl, e)
   no-first (Some n) b e = absurd (let z : _≡_ {A = ℕ} 0 1 = cc in omega arith)
 
@@ -49,15 +49,15 @@ module _ (W : Writer) (rows : List Row) where
 
   -- What setting accepts: known expressions, targets inside the code.
   pub set-accepts : (R : Records) (ops : List Instr) (room places : ℕ) → setFault W rows R ops room places ≡ None
-      → (targetsFine W rows (length ops) ops ≡ true) × (writeFaults W rows room ops ≡ None)
+      → (targetsFine (length ops) ops ≡ true) × (writeFaults W rows room ops ≡ None)
   unfolding setFault
-  set-accepts R ops room places h = go (setTooLarge W rows R (length ops) room) (every (labelLaw R) (length (R .labels) - 1) 1 && every (exprSound R) (length (R .exprs) - 1) 1) (targetsFine W rows (length ops) ops && rowsFine W rows (length (R .exprs)) rows) (leb (length ops) places) refl h
+  set-accepts R ops room places h = go (setTooLarge R (length ops) room) (every (labelLaw R) (length (R .labels) - 1) 1 && every (exprSound R) (length (R .exprs) - 1) 1) (targetsFine (length ops) ops && rowsFine (length (R .exprs)) rows) (leb (length ops) places) refl h
     where
-      go : (a b d f : Bool) → (targetsFine W rows (length ops) ops && rowsFine W rows (length (R .exprs)) rows) ≡ d
+      go : (a b d f : Bool) → (targetsFine (length ops) ops && rowsFine (length (R .exprs)) rows) ≡ d
           → cond a (Some 10) (cond b (cond d (cond f (writeFaults W rows room ops) (Some 23)) (Some 11)) (Some 11)) ≡ None
-          → (targetsFine W rows (length ops) ops ≡ true) × (writeFaults W rows room ops ≡ None)
+          → (targetsFine (length ops) ops ≡ true) × (writeFaults W rows room ops ≡ None)
       go true b d f q h = absurd (let z : _≡_ {A = ℕ} 0 1 = cc in omega arith)
       go false false d f q h = absurd (let z : _≡_ {A = ℕ} 0 1 = cc in omega arith)
       go false true false f q h = absurd (let z : _≡_ {A = ℕ} 0 1 = cc in omega arith)
       go false true true false q h = absurd (let z : _≡_ {A = ℕ} 0 1 = cc in omega arith)
-      go false true true true q h = (and-parts (targetsFine W rows (length ops) ops) (rowsFine W rows (length (R .exprs)) rows) q .0, h)
+      go false true true true q h = (and-parts (targetsFine (length ops) ops) (rowsFine (length (R .exprs)) rows) q .0, h)

@@ -100,5 +100,5 @@ abbrev pub SettingStands : Type 0
 SettingStands =
     (code : List Instr) (rows : List Row) (T : Tables) (W : Writer) (deepest room : ℕ) (hs : List Heights) (k : Bool) (B : Block)
     → ((i e : ℕ) → i < length code → exprOf rows (instrAt code i .op) ≡ Some e → W .known e ≡ true)
-    → targetsFine W rows (length code) code ≡ true → deepest ≤ room
+    → targetsFine (length code) code ≡ true → deepest ≤ room
     → CodeScript (lowLayout code rows T deepest hs) k B → Moved code rows T W room k B

@@ -29,15 +29,19 @@ abbrev outsideOr : Option Heights → Bool
 outsideOr None = false
 outsideOr (Some h) = true
 
+pub shiftAll-length : (d : ℕ) (xs : List Instr) → length (shiftAll d xs) ≡ length xs
+shiftAll-length d [] = refl
+shiftAll-length d (x ∷ xs) = ap suc (shiftAll-length d xs)
+
 module _ (W : Writer) (rows : List Row) where
   -- ## Places
 
-  place-zero : (xs : List Instr) → placeOf W rows xs 0 ≡ 0
+  pub place-zero : (xs : List Instr) → placeOf W rows xs 0 ≡ 0
   place-zero [] = refl
   place-zero (x ∷ xs) = refl
 
   -- The place after an operation's is past what stands for it.
-  place-suc : (xs : List Instr) (k : ℕ) → k < length xs → placeOf W rows xs (suc k) ≡ placeOf W rows xs k + width W rows (instrAt xs k)
+  pub place-suc : (xs : List Instr) (k : ℕ) → k < length xs → placeOf W rows xs (suc k) ≡ placeOf W rows xs k + width W rows (instrAt xs k)
   place-suc [] k h = absurd (not-suc-le-zero h)
   place-suc (x ∷ xs) zero h = omega (arith, place-zero xs)
   place-suc (x ∷ xs) (suc k) h = omega (arith, place-suc xs k (omega arith))
@@ -87,11 +91,7 @@ module _ (W : Writer) (rows : List Row) where
 
   -- ## The code
 
-  shiftAll-length : (d : ℕ) (xs : List Instr) → length (shiftAll W rows d xs) ≡ length xs
-  shiftAll-length d [] = refl
-  shiftAll-length d (x ∷ xs) = ap suc (shiftAll-length d xs)
-
-  piece-length : (μ : ℕ → ℕ) (i at : ℕ) (x : Instr) (o : Option ℕ) → length (pieceOf W rows μ at x o) ≡ widthOf W rows o
+  pub piece-length : (μ : ℕ → ℕ) (i at : ℕ) (x : Instr) (o : Option ℕ) → length (pieceOf W rows μ at x o) ≡ widthOf W rows o
   piece-length μ i at x None = refl
   piece-length μ i at x (Some e) = shiftAll-length at (W .segment e)
 
@@ -100,7 +100,7 @@ module _ (W : Writer) (rows : List Row) where
   set-laid μ i at (x ∷ xs) = ap (λ (ys : List Instr). piece W rows μ at x ++ ys) (set-laid μ (suc i) (width W rows x + at) xs)
 
   -- A segment whose operations stand one by one.
-  holds : (code : List Instr) (from a : ℕ) (xs : List Instr) → ((j : ℕ) → j < length xs → instrAt code (a + j) ≡ instrAt (shiftAll W rows from xs) j) → Holds code from a xs
+  holds : (code : List Instr) (from a : ℕ) (xs : List Instr) → ((j : ℕ) → j < length xs → instrAt code (a + j) ≡ instrAt (shiftAll from xs) j) → Holds code from a xs
   holds code from a [] at = tt
   holds code from a (x ∷ xs) at =
       let first : a ≡ a + 0 = omega arith in (

@@ -107,6 +107,41 @@ moveOp μ Return = Return
 moveOp μ (EvalExpr e) = EvalExpr e
 moveOp μ (Foreign n) = Foreign n
 
+-- A segment with its targets moved on.
+abbrev pub shiftAll : ℕ → List Instr → List Instr
+shiftAll d [] = []
+shiftAll d (x ∷ xs) = shift d x ∷ shiftAll d xs
+
+-- ## What operations and rows must be
+
+-- A target is below the count of operations; a residual row is an expression's, which is a record, or a statement's.
+abbrev pub targetFine : ℕ → Option ℕ → Bool
+targetFine n None = true
+targetFine n (Some t) = ltb t n
+
+abbrev pub targetsFine : ℕ → List Instr → Bool
+targetsFine n [] = true
+targetsFine n (x ∷ xs) = targetFine n (targetOf (x .op)) && targetsFine n xs
+
+abbrev pub rowFine : ℕ → Row → Bool
+rowFine exprs r = cond (eqb (r .kind) 1) (ltb 0 (r .number) && ltb (r .number) exprs) (eqb (r .kind) 2)
+
+abbrev pub rowsFine : ℕ → List Row → Bool
+rowsFine exprs [] = true
+rowsFine exprs (r ∷ rs) = rowFine exprs r && rowsFine exprs rs
+
+-- Sizes that are too large: text, labels, expressions, operations, and the slice for set code.
+abbrev pub setTooLarge : Records → ℕ → ℕ → Bool
+setTooLarge R ops room =
+    ltb 1048576 (length (R .text)) || (ltb 65536 (length (R .labels)) || (ltb 1048576 (length (R .exprs)) || (ltb 4194304 ops || ltb 4194304 room)))
+
+-- The first of two numbers that is there.
+abbrev pub orNext : Option ℕ → Option ℕ → Option ℕ
+orNext None next = next
+orNext (Some n) next = Some n
+
+-- ## Setting by a writer, with the residual rows
+
 module _ (W : Writer) (rows : List Row) where
   -- How many operations stand for one.
   abbrev pub widthOf : Option ℕ → ℕ
@@ -121,10 +156,6 @@ module _ (W : Writer) (rows : List Row) where
   placeOf [] i = 0
   placeOf (x ∷ xs) zero = 0
   placeOf (x ∷ xs) (suc i) = width x + placeOf xs i
-
-  abbrev pub shiftAll : ℕ → List Instr → List Instr
-  shiftAll d [] = []
-  shiftAll d (x ∷ xs) = shift d x ∷ shiftAll d xs
 
   -- What stands for an operation, at its new place.
   abbrev pub pieceOf : (ℕ → ℕ) → ℕ → Instr → Option ℕ → List Instr
@@ -144,39 +175,14 @@ module _ (W : Writer) (rows : List Row) where
 
   -- ## Refusals
 
-  -- A target is below the count of operations; a residual row is an expression's, which is a record, or a statement's.
-  abbrev pub targetFine : ℕ → Option ℕ → Bool
-  targetFine n None = true
-  targetFine n (Some t) = ltb t n
-
-  abbrev pub targetsFine : ℕ → List Instr → Bool
-  targetsFine n [] = true
-  targetsFine n (x ∷ xs) = targetFine n (targetOf (x .op)) && targetsFine n xs
-
-  abbrev pub rowFine : ℕ → Row → Bool
-  rowFine exprs r = cond (eqb (r .kind) 1) (ltb 0 (r .number) && ltb (r .number) exprs) (eqb (r .kind) 2)
-
-  abbrev pub rowsFine : ℕ → List Row → Bool
-  rowsFine exprs [] = true
-  rowsFine exprs (r ∷ rs) = rowFine exprs r && rowsFine exprs rs
-
   -- In code order: 17 at an unknown expression, else 23 where what stands for an operation finds no room.
   abbrev pub writeFault : ℕ → Option ℕ → Option ℕ
   writeFault room None = cond (ltb 0 room) None (Some 23)
   writeFault room (Some e) = cond (W .known e) (cond (leb (length (W .segment e)) room) None (Some 23)) (Some 17)
 
-  abbrev pub orNext : Option ℕ → Option ℕ → Option ℕ
-  orNext None next = next
-  orNext (Some n) next = Some n
-
   abbrev pub writeFaults : ℕ → List Instr → Option ℕ
   writeFaults room [] = None
   writeFaults room (x ∷ xs) = orNext (writeFault room (exprOf rows (x .op))) (writeFaults (room - width x) xs)
-
-  -- Sizes that are too large: text, labels, expressions, operations, and the slice for set code.
-  abbrev pub setTooLarge : Records → ℕ → ℕ → Bool
-  setTooLarge R ops room =
-      ltb 1048576 (length (R .text)) || (ltb 65536 (length (R .labels)) || (ltb 1048576 (length (R .exprs)) || (ltb 4194304 ops || ltb 4194304 room)))
 
   -- The first number that setting meets: sizes; labels and expressions; targets and rows; the memory for new places, one
   -- number an operation; then what is written, in code order.

@@ -23,7 +23,7 @@ use Rattle.records.proofs.Bools.{and-both, both-and, or-either, each-all, all-
 use Rattle.records.proofs.Forests.{tree-lt, forest-le, tree-end, Below, eachF}
 
 -- A form's own law says where its record ends.
-form-end : (f : Form) (R : Records) (e : Expr) (i : ℕ) → formLaw f R e i ≡ true → ((isList f ≡ true) × (i + 1 < e .end)) ⊎ ((isList f ≡ false) × (e .end ≡ i + 1))
+pub form-end : (f : Form) (R : Records) (e : Expr) (i : ℕ) → formLaw f R e i ≡ true → ((isList f ≡ true) × (i + 1 < e .end)) ⊎ ((isList f ≡ false) × (e .end ≡ i + 1))
 form-end UnitForm R e i h = inr (refl, eqb-true _ _ h)
 form-end True R e i h = inr (refl, eqb-true _ _ h)
 form-end Opaque R e i h = inr (refl, eqb-true _ _ h)
@@ -34,11 +34,11 @@ form-end AnyOf R e i h = inl (refl, ltb-true _ _ h)
 
 module _ (R : Records) where
   -- What a sound expression has.
-  record Fine (i : ℕ) : Type 0 where
-    law : exprLaw R i ≡ true
-    after : i < exprAt R i .end
-    within : exprAt R i .end ≤ length (R .exprs)
-    items : tiles R (exprAt R i .end - (i + 1)) (i + 1) (exprAt R i .end) ≡ true
+  pub record Fine (i : ℕ) : Type 0 where
+    pub law : exprLaw R i ≡ true
+    pub after : i < exprAt R i .end
+    pub within : exprAt R i .end ≤ length (R .exprs)
+    pub items : tiles R (exprAt R i .end - (i + 1)) (i + 1) (exprAt R i .end) ≡ true
 
   tiles-none : (k a b : ℕ) → a ≡ b → tiles R k a b ≡ true
   unfolding tiles
@@ -50,7 +50,7 @@ module _ (R : Records) where
       known m (λ f. formLaw f R (exprAt R i) i
       && (not (isList f) || (leb (exprAt R i .end) (length (R .exprs)) && tiles R (exprAt R i .end - (i + 1)) (i + 1) (exprAt R i .end))))
 
-  sound-fine : (i : ℕ) → i < length (R .exprs) → exprSound R i ≡ true → Fine i
+  pub sound-fine : (i : ℕ) → i < length (R .exprs) → exprSound R i ≡ true → Fine i
   sound-fine i u h = go (formOf (exprAt R i .form)) refl h
     where
       listed : {b : Bool} (c : Bool) → c ≡ true → (not c || b) ≡ true → b ≡ true
@@ -85,13 +85,13 @@ module _ (R : Records) where
 
   -- ## From the checks to trees
 
-  record Hop (a b : ℕ) : Type 0 where
-    steps : ℕ
-    after : a < exprAt R a .end
-    within : exprAt R a .end ≤ b
-    on : tiles R steps (exprAt R a .end) b ≡ true
+  pub record Hop (a b : ℕ) : Type 0 where
+    pub steps : ℕ
+    pub after : a < exprAt R a .end
+    pub within : exprAt R a .end ≤ b
+    pub on : tiles R steps (exprAt R a .end) b ≡ true
 
-  hop : (k a b : ℕ) → tiles R k a b ≡ true → (a ≡ b) ⊎ Hop a b
+  pub hop : (k a b : ℕ) → tiles R k a b ≡ true → (a ≡ b) ⊎ Hop a b
   unfolding tiles
   hop zero a b h = inl (eqb-true a b h)
   hop (suc k) a b h =

@@ -67,7 +67,8 @@ fn label_is_sound(script: &Script, i: usize) -> bool
     label.start as usize + label.length as usize <= script.text.len()
 }
 
-fn check_labels(script: &Script) -> Result<(), Refusal>
+// Every label lies within the text.
+pub fn check_labels(script: &Script) -> Result<(), Refusal>
     ensures { λ r. ⌜ answered r ≡ labelFault (records (now (script .entry))) ⌝ }
 {
     for i in 1..script.labels.len() {
@@ -140,7 +141,8 @@ fn expr_is_sound(script: &Script, i: usize) -> bool
         && (!form.is_list() || (end <= script.exprs.len() && is_tiled(script, i + 1, end)))
 }
 
-fn check_exprs(script: &Script) -> Result<(), Refusal>
+// Every expression is lawful, and the items of a list tile it.
+pub fn check_exprs(script: &Script) -> Result<(), Refusal>
     ensures { λ r. ⌜ answered r ≡ exprFault (records (now (script .entry))) ⌝ }
 {
     for i in 1..script.exprs.len() {
