@@ -24,7 +24,6 @@ size-fits false e = refl
 
 -- Accepted records have a tree.
 pub has-tree : (R : Records) → checked R ≡ none → (T : ScriptTree) × Preorder R T
-unfolding checked
 has-tree R e =
     let a = first-none {x = sizeFault R} e in
     let b = first-none {x = labelFault R} (a .1) in
@@ -45,7 +44,6 @@ has-tree R e =
 
 -- Records that have a tree are accepted.
 pub tree-accepted : (R : Records) (T : ScriptTree) → Preorder R T → checked R ≡ none
-unfolding checked
 tree-accepted R T p =
     none-first {x = sizeFault R} (rw (p .sizes) refl)
     (none-first {x = labelFault R} (all-each (labelLaw R) (length (R .labels)) (p .labels))

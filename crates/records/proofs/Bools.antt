@@ -66,3 +66,16 @@ is-not {b = false} e = refl
 pub or-either : {x y : Bool} → (x || y) ≡ true → (x ≡ true) ⊎ (y ≡ true)
 or-either {x = true} e = inl refl
 or-either {x = false} e = inr e
+
+-- ## A loop from record 1 on
+
+-- one more record passes; one does not; none is left
+pub every-on : (P : ℕ → Bool) (n i : ℕ) → every P (n - 1) 1 ≡ every P (n - i) i → i < n → P i ≡ true → every P (n - 1) 1 ≡ every P (n - (i + 1)) (i + 1)
+every-on P n i e l p = e ∙ every-step P n i l ∙ ap (λ (b : Bool). b && every P (n - (i + 1)) (i + 1)) p
+
+pub every-stops : (P : ℕ → Bool) (n i : ℕ) → every P (n - 1) 1 ≡ every P (n - i) i → i < n → P i ≡ false → some 11 ≡ eachFrom1 P n
+every-stops P n i e l p = rw (e ∙ every-step P n i l ∙ ap (λ (b : Bool). b && every P (n - (i + 1)) (i + 1)) p) refl
+
+pub every-ends : (P : ℕ → Bool) (n i : ℕ) → every P (n - 1) 1 ≡ every P (n - i) i → n ≤ i → none ≡ eachFrom1 P n
+unfolding every
+every-ends P n i e l = let z : n - i ≡ 0 = omega arith in rw (e ∙ ap (λ (k : ℕ). every P k i) z) refl

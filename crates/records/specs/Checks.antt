@@ -24,7 +24,7 @@ use Rattle.records.specs.Meanings.{kindOf, formOf, targetOf, known, hasBody, h
 use Rattle.records.specs.Tree.{Records, labelAt, exprAt, operatorAt, nodeAt, flagged}
 
 -- The number of a refusal, if it is one.
-abbrev pub answered : Result (Unit {0}) Refusal → Option ℕ
+abbrev pub answered : {A : Type 0} → Result A Refusal → Option ℕ
 answered (Ok x) = none
 answered (Err e) = some (numberOf e)
 
@@ -207,5 +207,5 @@ abbrev pub statementFault : Records → Option ℕ
 statementFault R = walk R (length (R .nodes)) 0 []
 
 -- The number with which records are refused, if they are: the first fault in this order.
-unfoldable pub checked : Records → Option ℕ
+abbrev pub checked : Records → Option ℕ
 checked R = first (sizeFault R) (first (labelFault R) (first (exprFault R) (first (operatorFault R) (statementFault R))))
