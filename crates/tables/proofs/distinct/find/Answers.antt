@@ -1,0 +1,41 @@
+use mathlib.Core.Path.{_≡_, sym, ap, _∙_}
+use mathlib.Core.Bool.{Bool, cond}
+use native.Mathlib.Omega.{arith}
+use Prim.Native.Nat.{ℕ, _+_, _<_}
+use lib.ListN.{length, take, drop, getD}
+use denote.Ref.{now}
+use Rattle.std.specs.declared.option.Option.the-variants.{Some, None}
+use Rattle.std.proofs.shelf.Lists.{getD-take, length-take-le}
+use Rattle.meaning.specs.LowerState.{firstSame}
+use Rattle.tables.proofs.Searches.{first-more, first-none}
+use Rattle.tables.proofs.distinct.find.Needs as need
+
+pub returns-then-same : need.returns-then-same
+returns-then-same g c =
+    let same = g .E·Same .alike (now (c .args .context)) in
+    let xs = take (c .args .count) (now (c .args .entries)) in
+    let i = c .loop-i .i in
+    let y = c .index-entries-i .result in
+    let n = length-take-le (c .args .count) (now (c .args .entries)) (c .pre) in
+    let h : i < length xs = omega (arith, n) in
+    let e = c .index-entries-i .is ∙ sym (getD-take (c .args .count) (now (c .args .entries)) i y (omega arith)) in
+    sym (c .loop-i .inv ∙ first-more same (now (c .args .x)) xs i y h e
+    ∙ ap (λ (b : Bool). cond b (Some i) (firstSame same (now (c .args .x)) (i + 1) (drop (i + 1) xs))) (sym (c .if-same .ensures tt)))
+
+pub loop-i-again : need.loop-i-again
+loop-i-again g c =
+    let same = g .E·Same .alike (now (c .args .context)) in
+    let xs = take (c .args .count) (now (c .args .entries)) in
+    let i = c .loop-i .i in
+    let y = c .index-entries-i .result in
+    let n = length-take-le (c .args .count) (now (c .args .entries)) (c .pre) in
+    let h : i < length xs = omega (arith, n) in
+    let e = c .index-entries-i .is ∙ sym (getD-take (c .args .count) (now (c .args .entries)) i y (omega arith)) in
+    c .loop-i .inv ∙ first-more same (now (c .args .x)) xs i y h e
+    ∙ ap (λ (b : Bool). cond b (Some i) (firstSame same (now (c .args .x)) (i + 1) (drop (i + 1) xs))) (sym (c .if-same .ensures tt))
+
+pub returns : need.returns
+returns g c =
+    let xs = take (c .args .count) (now (c .args .entries)) in
+    let n = length-take-le (c .args .count) (now (c .args .entries)) (c .pre) in
+    sym (c .loop-i .inv ∙ first-none (g .E·Same .alike (now (c .args .context))) (now (c .args .x)) xs (c .loop-i .i) (omega (arith, n)))
