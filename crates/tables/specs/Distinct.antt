@@ -1,7 +1,7 @@
 -- A table without repeats as a list.
 use mathlib.Core.Path.{_≡_}
 use mathlib.Core.Bool.{true, false, cond}
-use Prim.Native.Nat.{ℕ, suc, _+_}
+use Prim.Native.Nat.{ℕ, suc, _+_, _<_, _≤_}
 use lib.ListN.{length}
 use Rattle.std.specs.declared.option.Option.{Option}
 use Rattle.std.specs.declared.option.Option.the-variants.{Some, None}
@@ -25,3 +25,13 @@ RefusedAt p n (Err e) after = (e ≡ NoRoom) × (after n ≡ p)
 abbrev pub EnteredAs : {X : Type 0} → Option ℕ → X → Pile X → Result Entered Refusal → (ℕ → Pile X) → Type 0
 EnteredAs (Some i) x p r after = EnteredAt p i (length (p .held)) r after
 EnteredAs None x p r after = cond (hasRoom p) (EnteredAt (pushed x p) (length (p .held)) (suc (length (p .held))) r after) (RefusedAt p (length (p .held)) r after)
+
+-- A place that was found is one of so many.
+abbrev pub Below : Option ℕ → ℕ → Type 0
+Below (Some i) n = i < n
+Below None n = Unit {0}
+
+-- The place is one of those in use, and those in use are within the memory and the bound.
+abbrev pub Inside : Result Entered Refusal → ℕ → ℕ → Type 0
+Inside (Ok r) room most = (r .place < r .count) × (r .count ≤ room) × (r .count ≤ most)
+Inside (Err e) room most = Unit {0}

@@ -5,7 +5,7 @@ ghost use Prim.Native.Nat.{ℕ, _≤_, _<_};
 ghost use lib.ListN.{length, take};
 ghost use Rattle.meaning.specs.LowerState.{firstSame};
 ghost use Rattle.tables.specs.Stacks.{pile};
-ghost use Rattle.tables.specs.Distinct.{EnteredAs};
+ghost use Rattle.tables.specs.Distinct.{EnteredAs, Inside, Below};
 use crate::same::Same;
 use records::Refusal;
 
@@ -19,7 +19,8 @@ pub struct Entered {
 // The first entry that is the same as `x`.
 pub fn find<C, E: Same<C>>(entries: &[E], count: usize, x: &E, context: &C) -> Option<usize>
     requires { ⌜ count ≤ length (now entries) ⌝ }
-    ensures { λ r. ⌜ r ≡ firstSame (E·Same .alike (now (context .entry))) (now (x .entry)) 0 (take count (now (entries .entry))) ⌝ }
+    ensures is { λ r. ⌜ r ≡ firstSame (E·Same .alike (now (context .entry))) (now (x .entry)) 0 (take count (now (entries .entry))) ⌝ }
+    ensures within { λ r. ⌜ Below r count ⌝ }
 {
     for i in 0..count {
         if entries[i].same(x, context) {
@@ -37,8 +38,9 @@ pub fn enter<C, E: Same<C> + Copy>(
     x: E,
     context: &C,
 ) -> Result<Entered, Refusal>
-    requires { ⌜ count ≤ length (now entries) ⌝ }
-    ensures { λ r. ⌜ EnteredAs (firstSame (E·Same .alike (now (context .entry))) x 0 (take count (now (entries .entry)))) x (pile most count (now (entries .entry))) r (λ n. pile most n (now (entries .exit))) ⌝ }
+    requires { ⌜ count ≤ length (now entries) ⌝ ∗ ⌜ count ≤ most ⌝ }
+    ensures is { λ r. ⌜ EnteredAs (firstSame (E·Same .alike (now (context .entry))) x 0 (take count (now (entries .entry)))) x (pile most count (now (entries .entry))) r (λ n. pile most n (now (entries .exit))) ⌝ }
+    ensures within { λ r. ⌜ Inside r (length (now (entries .entry))) most ⌝ }
 {
     if let Some(place) = find(entries, count, &x, context) {
         return Ok(Entered { place, count });

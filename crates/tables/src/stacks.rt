@@ -5,6 +5,7 @@ ghost use Prim.Native.Nat.{ℕ, _≤_, _<_};
 ghost use lib.ListN.{length, take, getD};
 ghost use Rattle.std.specs.declared.option.Option.the-variants.{Some, None};
 ghost use Rattle.meaning.specs.LowerState.{newestSame, holding};
+ghost use Rattle.tables.specs.Distinct.{Below};
 ghost use Rattle.tables.specs.Stacks.{SameLent, contents, Pushed};
 use crate::same::Same;
 use crate::stack::Stack;
@@ -57,7 +58,8 @@ pub fn newest<C, T: Same<C>, const MOST: usize>(
     x: &T,
     context: &C,
 ) -> Option<usize>
-    ensures { λ r. ⌜ r ≡ newestSame (T·Same .alike (now (context .entry))) (now (x .entry)) 0 None (contents MOST (now (stack .entry)) .held) ⌝ }
+    ensures is { λ r. ⌜ r ≡ newestSame (T·Same .alike (now (context .entry))) (now (x .entry)) 0 None (contents MOST (now (stack .entry)) .held) ⌝ }
+    ensures within { λ r. ⌜ Below r MOST ⌝ }
 {
     let items = &*stack.items;
     for i in (0..stack.len).rev() {

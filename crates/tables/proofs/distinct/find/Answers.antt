@@ -19,8 +19,8 @@ returns-then-same g c =
     let n = length-take-le (c .args .count) (now (c .args .entries)) (c .pre) in
     let h : i < length xs = omega (arith, n) in
     let e = c .index-entries-i .is ∙ sym (getD-take (c .args .count) (now (c .args .entries)) i y (omega arith)) in
-    sym (c .loop-i .inv ∙ first-more same (now (c .args .x)) xs i y h e
-    ∙ ap (λ (b : Bool). cond b (Some i) (firstSame same (now (c .args .x)) (i + 1) (drop (i + 1) xs))) (sym (c .if-same .ensures tt)))
+    record { is = sym (c .loop-i .inv ∙ first-more same (now (c .args .x)) xs i y h e
+    ∙ ap (λ (b : Bool). cond b (Some i) (firstSame same (now (c .args .x)) (i + 1) (drop (i + 1) xs))) (sym (c .if-same .ensures tt))); within = omega arith }
 
 pub loop-i-again : need.loop-i-again
 loop-i-again g c =
@@ -38,4 +38,4 @@ pub returns : need.returns
 returns g c =
     let xs = take (c .args .count) (now (c .args .entries)) in
     let n = length-take-le (c .args .count) (now (c .args .entries)) (c .pre) in
-    sym (c .loop-i .inv ∙ first-none (g .E·Same .alike (now (c .args .context))) (now (c .args .x)) xs (c .loop-i .i) (omega (arith, n)))
+    record { is = sym (c .loop-i .inv ∙ first-none (g .E·Same .alike (now (c .args .context))) (now (c .args .x)) xs (c .loop-i .i) (omega (arith, n))); within = tt }

@@ -14,9 +14,9 @@ returns-then-same g c =
     let same = g .T·Same .alike (now (c .args .context)) in
     let xs = now (c .args .stack .now .items) in
     let i = c .loop-i .i in
-    sym (c .loop-i .inv
+    record { is = sym (c .loop-i .inv
     ∙ newest-down same (now (c .args .x)) xs i (c .index-items-i .result) (omega arith) (omega arith) (c .index-items-i .is)
-    ∙ ap (λ (b : Bool). cond b (Some (i - 1)) (newestSame same (now (c .args .x)) 0 None (take (i - 1) xs))) (sym (c .if-same .ensures tt)))
+    ∙ ap (λ (b : Bool). cond b (Some (i - 1)) (newestSame same (now (c .args .x)) 0 None (take (i - 1) xs))) (sym (c .if-same .ensures tt))); within = omega arith }
 
 pub loop-i-again : need.loop-i-again
 loop-i-again g c =
@@ -31,4 +31,4 @@ pub returns : need.returns
 returns g c =
     let z : c .loop-i .i ≡ 0 = omega arith in
     let xs = now (c .args .stack .now .items) in
-    sym (c .loop-i .inv ∙ ap (λ (n : ℕ). newestSame (g .T·Same .alike (now (c .args .context))) (now (c .args .x)) 0 None (take n xs)) z)
+    record { is = sym (c .loop-i .inv ∙ ap (λ (n : ℕ). newestSame (g .T·Same .alike (now (c .args .context))) (now (c .args .x)) 0 None (take n xs)) z); within = tt }

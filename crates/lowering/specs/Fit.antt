@@ -1,0 +1,8 @@
+-- How much of a memory is in use.
+use mathlib.Core.List.{List}
+use Prim.Native.Nat.{ℕ, _≤_}
+use lib.ListN.{length}
+
+-- So much of it, and never more than 4,194,304.
+abbrev pub Fits : {X : Type 0} → ℕ → List X → Type 0
+Fits n xs = (n ≤ length xs) × (n ≤ 4194304)

@@ -1,0 +1,25 @@
+mod emitting;
+mod loops;
+mod rows;
+mod slots;
+mod state;
+mod words;
+
+pub use loops::add_break;
+pub use loops::begin_loop;
+pub use loops::land;
+pub use rows::residual;
+pub use slots::declare;
+pub use slots::depth;
+pub use slots::drop_slots;
+pub use slots::may_declare;
+pub use slots::resolve;
+pub use slots::unwind_to;
+pub use state::Breaks;
+pub use state::Level;
+pub use state::Lowering;
+pub use state::MOST;
+pub use state::MOST_SLOTS;
+pub use state::Rows;
+pub use state::Slots;
+pub use words::name_bytes;
