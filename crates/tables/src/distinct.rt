@@ -1,56 +1,64 @@
-// A table without repeats: entries are lent memory, of which the first `count` are in use.
+// A stack searched for an element that is the same as another, and a table without repeats.
 
 ghost use mathlib.Core.Path.{_≡_};
-ghost use Prim.Native.Nat.{ℕ, _≤_, _<_};
-ghost use lib.ListN.{length, take};
-ghost use Rattle.meaning.specs.LowerState.{firstSame};
-ghost use Rattle.tables.specs.Stacks.{pile};
-ghost use Rattle.tables.specs.Distinct.{EnteredAs, Inside, Below};
+ghost use Rattle.std.specs.declared.option.Option.the-variants.{None};
+ghost use Rattle.meaning.specs.LowerState.{firstSame, newestSame};
+ghost use Rattle.tables.specs.Stacks.{SameLent, contents};
+ghost use Rattle.tables.specs.Distinct.{EnteredAs, Below, PlaceBelow};
 use crate::same::Same;
+use crate::stack::Stack;
 use records::Refusal;
 
-// Where an entry stands, and how many entries there are then.
-#[derive(Clone, Copy)]
-pub struct Entered {
-    pub place: usize,
-    pub count: usize,
-}
-
-// The first entry that is the same as `x`.
-pub fn find<C, E: Same<C>>(entries: &[E], count: usize, x: &E, context: &C) -> Option<usize>
-    requires { ⌜ count ≤ length (now entries) ⌝ }
-    ensures is { λ r. ⌜ r ≡ firstSame (E·Same .alike (now (context .entry))) (now (x .entry)) 0 (take count (now (entries .entry))) ⌝ }
-    ensures within { λ r. ⌜ Below r count ⌝ }
+// The place of the newest element that is the same as `x`.
+pub fn newest<C, T: Same<C>, const MOST: usize>(
+    stack: &Stack<T, MOST>,
+    x: &T,
+    context: &C,
+) -> Option<usize>
+    ensures is { λ r. ⌜ r ≡ newestSame (T·Same .alike (now (context .entry))) (now (x .entry)) 0 None (contents MOST (now (stack .entry)) .held) ⌝ }
+    ensures within { λ r. ⌜ Below r MOST ⌝ }
 {
-    for i in 0..count {
-        if entries[i].same(x, context) {
+    let items = &*stack.items;
+    for i in (0..stack.len).rev() {
+        if items[i].same(x, context) {
             return Some(i);
         }
     }
     None
 }
 
-// The first entry that is the same as `x`, or a new one at the end, of at most so many.
-pub fn enter<C, E: Same<C> + Copy>(
-    entries: &mut [E],
-    count: usize,
-    most: usize,
-    x: E,
+// The place of the first element that is the same as `x`.
+pub fn first<C, T: Same<C>, const MOST: usize>(
+    stack: &Stack<T, MOST>,
+    x: &T,
     context: &C,
-) -> Result<Entered, Refusal>
-    requires { ⌜ count ≤ length (now entries) ⌝ ∗ ⌜ count ≤ most ⌝ }
-    ensures is { λ r. ⌜ EnteredAs (firstSame (E·Same .alike (now (context .entry))) x 0 (take count (now (entries .entry)))) x (pile most count (now (entries .entry))) r (λ n. pile most n (now (entries .exit))) ⌝ }
-    ensures within { λ r. ⌜ Inside r (length (now (entries .entry))) most ⌝ }
+) -> Option<usize>
+    ensures is { λ r. ⌜ r ≡ firstSame (T·Same .alike (now (context .entry))) (now (x .entry)) 0 (contents MOST (now (stack .entry)) .held) ⌝ }
+    ensures within { λ r. ⌜ Below r MOST ⌝ }
 {
-    if let Some(place) = find(entries, count, &x, context) {
-        return Ok(Entered { place, count });
+    let items = &*stack.items;
+    for i in 0..stack.len {
+        if items[i].same(x, context) {
+            return Some(i);
+        }
     }
-    if count >= most || count >= entries.len() {
-        return Err(Refusal::NoRoom);
+    None
+}
+
+// The place of the first element that is the same as `x`; if there is none, `x` is pushed.
+pub fn enter<C, T: Same<C> + Copy, const MOST: usize>(
+    table: &mut Stack<T, MOST>,
+    x: T,
+    context: &C,
+) -> Result<usize, Refusal>
+    ensures lent { λ _. ⌜ SameLent MOST (now (table .entry)) (now (table .exit)) ⌝ }
+    ensures did { λ r. ⌜ EnteredAs (firstSame (T·Same .alike (now (context .entry))) x 0 (contents MOST (now (table .entry)) .held)) x (contents MOST (now (table .entry))) r (contents MOST (now (table .exit))) ⌝ }
+    ensures within { λ r. ⌜ PlaceBelow r MOST ⌝ }
+{
+    if let Some(place) = first(table, &x, context) {
+        return Ok(place);
     }
-    entries[count] = x;
-    Ok(Entered {
-        place: count,
-        count: count + 1,
-    })
+    let place = table.count();
+    table.push(x)?;
+    Ok(place)
 }

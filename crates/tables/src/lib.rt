@@ -3,9 +3,8 @@ mod same;
 mod stack;
 mod stacks;
 
-pub use distinct::Entered;
 pub use distinct::enter;
-pub use distinct::find;
+pub use distinct::first;
+pub use distinct::newest;
 pub use same::Same;
 pub use stack::Stack;
-pub use stacks::newest;

@@ -3,11 +3,8 @@
 ghost use mathlib.Core.Path.{_≡_};
 ghost use Prim.Native.Nat.{ℕ, _≤_, _<_};
 ghost use lib.ListN.{length, take, getD};
-ghost use Rattle.std.specs.declared.option.Option.the-variants.{Some, None};
-ghost use Rattle.meaning.specs.LowerState.{newestSame, holding};
-ghost use Rattle.tables.specs.Distinct.{Below};
+ghost use Rattle.meaning.specs.LowerState.{holding};
 ghost use Rattle.tables.specs.Stacks.{SameLent, contents, Pushed};
-use crate::same::Same;
 use crate::stack::Stack;
 use records::Refusal;
 
@@ -50,22 +47,4 @@ impl<'a, T: Copy, const MOST: usize> Stack<'a, T, MOST> {
         let items = &*self.items;
         items[i]
     }
-}
-
-// The place of the newest element that is the same as `x`.
-pub fn newest<C, T: Same<C>, const MOST: usize>(
-    stack: &Stack<T, MOST>,
-    x: &T,
-    context: &C,
-) -> Option<usize>
-    ensures is { λ r. ⌜ r ≡ newestSame (T·Same .alike (now (context .entry))) (now (x .entry)) 0 None (contents MOST (now (stack .entry)) .held) ⌝ }
-    ensures within { λ r. ⌜ Below r MOST ⌝ }
-{
-    let items = &*stack.items;
-    for i in (0..stack.len).rev() {
-        if items[i].same(x, context) {
-            return Some(i);
-        }
-    }
-    None
 }

@@ -7,16 +7,19 @@ use denote.Ref.{now}
 use Rattle.std.specs.declared.option.Option.the-variants.{Some, None}
 use Rattle.meaning.specs.LowerState.{newestSame}
 use Rattle.tables.proofs.Searches.{newest-down}
-use Rattle.tables.proofs.stacks.newest.Needs as need
+use Rattle.tables.proofs.distinct.newest.Needs as need
 
 pub returns-then-same : need.returns-then-same
 returns-then-same g c =
     let same = g .T·Same .alike (now (c .args .context)) in
     let xs = now (c .args .stack .now .items) in
     let i = c .loop-i .i in
-    record { is = sym (c .loop-i .inv
-    ∙ newest-down same (now (c .args .x)) xs i (c .index-items-i .result) (omega arith) (omega arith) (c .index-items-i .is)
-    ∙ ap (λ (b : Bool). cond b (Some (i - 1)) (newestSame same (now (c .args .x)) 0 None (take (i - 1) xs))) (sym (c .if-same .ensures tt))); within = omega arith }
+    record {
+      is = sym (c .loop-i .inv
+          ∙ newest-down same (now (c .args .x)) xs i (c .index-items-i .result) (omega arith) (omega arith) (c .index-items-i .is)
+          ∙ ap (λ (b : Bool). cond b (Some (i - 1)) (newestSame same (now (c .args .x)) 0 None (take (i - 1) xs))) (sym (c .if-same .ensures tt)));
+      within = omega arith;
+    }
 
 pub loop-i-again : need.loop-i-again
 loop-i-again g c =
