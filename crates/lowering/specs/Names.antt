@@ -5,12 +5,14 @@ use mathlib.Core.List.{List, [], _∷_}
 use Prim.Native.Nat.{ℕ}
 use lib.Dec.{eqb}
 use borrow.Author.Tests.{eq-eqb, eqb-true, clash}
-use Rattle.records.specs.declared.types.Script.{Script}
-use Rattle.records.specs.Tree.{Records, records, nameOf}
+use lib.ListN.{take, drop, getD}
+use denote.Ref.{now}
+use Rattle.records.specs.Tree.{noLabel}
 use Rattle.code.specs.declared.ops.AssignOp.{AssignOp}
 use Rattle.meaning.specs.Reading.{Bytes, sameBytes}
-use Rattle.meaning.specs.LowerState.{sameName, sameOper}
+use Rattle.meaning.specs.LowerState.{sameOper}
 use Rattle.tables.specs.Sameness.{Lawful}
+use Rattle.lowering.specs.declared.words.Words.{Words}
 
 both : (a b : Bool) → a && b ≡ true → (a ≡ true) × (b ≡ true)
 both true b e = (refl, e)
@@ -33,11 +35,20 @@ bytes-equal (x ∷ xs) (y ∷ ys) e =
 pub equal-bytes : (xs ys : Bytes) → xs ≡ ys → sameBytes xs ys ≡ true
 equal-bytes xs ys e = rw (sym e) (bytes-itself xs)
 
-pub names-lawful : (R : Records) → Lawful (sameName R)
-names-lawful R = record {
-  itself = λ x. bytes-itself (nameOf R x .bytes);
-  turned = λ x y e. equal-bytes _ _ (sym (bytes-equal (nameOf R x .bytes) (nameOf R y .bytes) e));
-  carried = λ x y z p q. equal-bytes _ _ (bytes-equal (nameOf R x .bytes) (nameOf R y .bytes) p ∙ bytes-equal (nameOf R y .bytes) (nameOf R z .bytes) q) }
+-- The bytes of a label's name.
+abbrev pub wordOf : Words → ℕ → Bytes
+wordOf w l = let x = getD (now (w .labels)) l noLabel in take (x .length) (drop (x .start) (now (w .text)))
+
+-- Labels are the same when they spell the same name.
+abbrev pub sameWord : Words → ℕ → ℕ → Bool
+sameWord w l k = sameBytes (wordOf w l) (wordOf w k)
+
+pub words-lawful : (w : Words) → Lawful (sameWord w)
+words-lawful w = record {
+  itself = λ x. bytes-itself (wordOf w x);
+  turned = λ x y e. equal-bytes _ _ (sym (bytes-equal (wordOf w x) (wordOf w y) e));
+  carried = λ x y z p q. equal-bytes _ _ (bytes-equal (wordOf w x) (wordOf w y) p ∙ bytes-equal (wordOf w y) (wordOf w z) q);
+}
 
 -- Operator rows are the same exactly if all four numbers are.
 record Same4 (a b : AssignOp) : Type 0 where
@@ -60,4 +71,5 @@ pub opers-lawful : Lawful sameOper
 opers-lawful = record {
   itself = λ x. true-oper x x (record { p₁ = refl; p₂ = refl; p₃ = refl; p₄ = refl });
   turned = λ x y e. let s = oper-true x y e in true-oper y x (record { p₁ = sym (s .p₁); p₂ = sym (s .p₂); p₃ = sym (s .p₃); p₄ = sym (s .p₄) });
-  carried = λ x y z e f. let s = oper-true x y e in let t = oper-true y z f in true-oper x z (record { p₁ = s .p₁ ∙ t .p₁; p₂ = s .p₂ ∙ t .p₂; p₃ = s .p₃ ∙ t .p₃; p₄ = s .p₄ ∙ t .p₄ }) }
+  carried = λ x y z e f. let s = oper-true x y e in let t = oper-true y z f in true-oper x z (record { p₁ = s .p₁ ∙ t .p₁; p₂ = s .p₂ ∙ t .p₂; p₃ = s .p₃ ∙ t .p₃; p₄ = s .p₄ ∙ t .p₄ });
+}

@@ -4,7 +4,7 @@ ghost use mathlib.Core.Path.{_≡_};
 ghost use Prim.Native.Nat.{_≤_};
 ghost use lib.ListN.{length};
 ghost use denote.Ref.{now};
-ghost use Rattle.lowering.specs.Fit.{Fits};
+ghost use Rattle.lowering.specs.Fit.{Counted, Fits};
 use code::AssignOp;
 use code::Instr;
 use code::Loop;
@@ -17,8 +17,14 @@ pub const MOST: usize = 4_194_304;
 // The most slots.
 pub const MOST_SLOTS: usize = 65_535;
 
-// Residual rows; the names of the live slots, by labels; the places of breaks' jumps.
+// Residual rows; the name table, by labels; operator rows.
 pub type Rows<'a> = Stack<'a, Row, MOST>;
+
+pub type Names<'a> = Stack<'a, u32, MOST>;
+
+pub type Operators<'a> = Stack<'a, AssignOp, MOST>;
+
+// The names of the live slots, by labels; the places of breaks' jumps.
 
 pub type Slots<'a> = Stack<'a, u32, MOST_SLOTS>;
 
@@ -31,18 +37,12 @@ pub struct Level {
     pub base: usize,
 }
 
-// Outputs in memory that is lent, each with how much of it is in use, the loops around, innermost last, and counters.
+// The operations, in memory that is lent, the loops around, innermost last, and counters. What else is lent lies beside.
 #[derive(Drop)]
 pub struct Lowering<'a> {
     // operations with their positions
     pub code: &'a mut [Instr],
     pub placed: usize,
-    // the name table, by labels
-    pub names: &'a mut [u32],
-    pub named: usize,
-    // operator rows
-    pub operators: &'a mut [AssignOp],
-    pub ruled: usize,
     pub loops: [Loop; 64],
     pub active: usize,
     // live iterators, and `try` regions around
@@ -54,8 +54,7 @@ pub struct Lowering<'a> {
     ghost few: { active ≤ 64 },
     ghost table: { length loops ≡ 64 },
     ghost codeFits: { Fits placed (now code) },
-    ghost namesFit: { Fits named (now names) },
-    ghost operatorsFit: { Fits ruled (now operators) },
+    ghost counted: { Counted placed loops },
     ghost iterated: { iters ≤ placed },
     ghost handled: { handlers ≤ placed },
 }
