@@ -120,6 +120,11 @@ abbrev pub assigned : Option ℕ → ℕ → Option ℕ → Position → Positio
 assigned (Some i) n o at mark = done (emitAt (AssignLocal i n o) at)
 assigned None n o at mark = done (emitAt (AssignNamed n o) mark)
 
+-- A reuse index counts back from the live slots; it must name the newest slot of that name, declared in this block.
+abbrev pub reuses : ℕ → ℕ → Level → Option ℕ → Bool
+reuses live index b None = false
+reuses live index b (Some i) = leb index live && (eqb i (live - index) && leb (b .base) i)
+
 module _ (R : Records) where
   abbrev pub nameNumber : Name → M ℕ
   nameNumber x = enterName R (x .label)
@@ -137,11 +142,6 @@ module _ (R : Records) where
       bind (enterOper (record { «op_assign» = o .token₁; «op_assign_name» = n; op = o .token₂; «op_name» = m })) (λ r. ret (Some r))))
 
   -- ## Statements
-
-  -- A reuse index counts back from the live slots; it must name the newest slot of that name, declared in this block.
-  abbrev pub reuses : ℕ → ℕ → Level → Option ℕ → Bool
-  reuses live index b None = false
-  reuses live index b (Some i) = leb index live && (eqb i (live - index) && leb (b .base) i)
 
   abbrev pub storing : Name → ℕ → Bool → M (Unit {0})
   storing x index k =
