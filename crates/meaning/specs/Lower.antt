@@ -79,6 +79,52 @@ scoped body = bind depth (λ d. bind enterBlock (λ saved. bind body (λ v. bind
 abbrev pub discarding : M Lowered → M (Unit {0})
 discarding body = bind body (λ v. emitIf (leaves v) Pop)
 
+-- ## Parts of statements that need no records
+
+-- A jump past the branch, where something is to be passed.
+abbrev pub jumpIf : Bool → M (Option ℕ)
+jumpIf b = cond b (bind (emit (Jump unset)) (λ site. ret (Some site))) (ret None)
+
+abbrev pub patchIf : Option ℕ → M (Unit {0})
+patchIf None = ret tt
+patchIf (Some site) = patchHere site
+
+-- Both ways of an `if` come to the same height.
+abbrev pub meet : Lowered → Lowered → Option ℕ → M Lowered
+meet Value Value past = bind (patchIf past) (λ _. ret Value)
+meet Value Empty past = bind (emit UnitOp) (λ _. bind (patchIf past) (λ _. ret Value))
+meet Empty Value past = bind (emit (Jump unset)) (λ trailer. bind (patchIf past) (λ _. bind (emit UnitOp) (λ _. bind (patchHere trailer) (λ _. ret Value))))
+meet Empty Empty past = bind (patchIf past) (λ _. ret Empty)
+
+-- A loop's end: unit where it has a break value, and just past that its breaks land.
+abbrev pub exitLoop : ℕ → Bool → M Lowered
+exitLoop count hasv = bind (emitIf hasv UnitOp) (λ _. bind (land count) (λ _. ret (lowered hasv)))
+
+-- The test of a `do`: under `until` a jump straight back where it is false.
+abbrev pub roundTest : Bool → Position → ℕ → M (Unit {0})
+roundTest true p top = done (emitAt (JumpIfFalse top) p)
+roundTest false p top = bind (emitAt (JumpIfFalse unset) p) (λ exit. bind (emit (Jump top)) (λ _. patchHere exit))
+
+-- Handlers and iterators above a floor are given up.
+abbrev pub givingUp : ℕ → ℕ → M (Unit {0})
+givingUp hands its =
+    bind (setHandlers (λ h. h)) (λ h. bind (emits (h - hands) PopHandler) (λ _.
+    bind (setIters (λ i. i)) (λ i. emits (i - its) IterDrop)))
+
+abbrev pub owned : Bool → ℕ
+owned true = 1
+owned false = 0
+
+-- A local takes the operator's position, any other name its own.
+abbrev pub assigned : Option ℕ → ℕ → Option ℕ → Position → Position → M (Unit {0})
+assigned (Some i) n o at mark = done (emitAt (AssignLocal i n o) at)
+assigned None n o at mark = done (emitAt (AssignNamed n o) mark)
+
+-- A reuse index counts back from the live slots; it must name the newest slot of that name, declared in this block.
+abbrev pub reuses : ℕ → ℕ → Level → Option ℕ → Bool
+reuses live index b None = false
+reuses live index b (Some i) = leb index live && (eqb i (live - index) && leb (b .base) i)
+
 module _ (R : Records) where
   abbrev pub nameNumber : Name → M ℕ
   nameNumber x = enterName R (x .label)
@@ -96,11 +142,6 @@ module _ (R : Records) where
       bind (enterOper (record { «op_assign» = o .token₁; «op_assign_name» = n; op = o .token₂; «op_name» = m })) (λ r. ret (Some r))))
 
   -- ## Statements
-
-  -- A reuse index counts back from the live slots; it must name the newest slot of that name, declared in this block.
-  abbrev pub reuses : ℕ → ℕ → Level → Option ℕ → Bool
-  reuses live index b None = false
-  reuses live index b (Some i) = leb index live && (eqb i (live - index) && leb (b .base) i)
 
   abbrev pub storing : Name → ℕ → Bool → M (Unit {0})
   storing x index k =
@@ -121,30 +162,10 @@ module _ (R : Records) where
   abbrev pub calling : Name → ℕ → M Lowered
   calling x i = cond (sameBytes (nameOf R (x .label) .bytes) evalBytes) (fail EvalCall) (statementRow i)
 
-  -- A local takes the operator's position, any other name its own.
-  abbrev pub assigned : Option ℕ → ℕ → Option ℕ → Position → Position → M (Unit {0})
-  assigned (Some i) n o at mark = done (emitAt (AssignLocal i n o) at)
-  assigned None n o at mark = done (emitAt (AssignNamed n o) mark)
-
   abbrev pub assigning : Name → Exp → Option Oper → Position → Position → M Lowered
   assigning x e o at mark =
       bind (resolve R (x .label)) (λ slot. bind (nameNumber x) (λ n. bind (expression e) (λ _. bind (operRow o) (λ r.
       bind (assigned slot n r at mark) (λ _. ret Empty)))))
-
-  -- A jump past the branch, where something is to be passed.
-  abbrev pub jumpIf : Bool → M (Option ℕ)
-  jumpIf b = cond b (bind (emit (Jump unset)) (λ site. ret (Some site))) (ret None)
-
-  abbrev pub patchIf : Option ℕ → M (Unit {0})
-  patchIf None = ret tt
-  patchIf (Some site) = patchHere site
-
-  -- Both ways of an `if` come to the same height.
-  abbrev pub meet : Lowered → Lowered → Option ℕ → M Lowered
-  meet Value Value past = bind (patchIf past) (λ _. ret Value)
-  meet Value Empty past = bind (emit UnitOp) (λ _. bind (patchIf past) (λ _. ret Value))
-  meet Empty Value past = bind (emit (Jump unset)) (λ trailer. bind (patchIf past) (λ _. bind (emit UnitOp) (λ _. bind (patchHere trailer) (λ _. ret Value))))
-  meet Empty Empty past = bind (patchIf past) (λ _. ret Empty)
 
   -- `if`: body, whether there is a branch, branch.
   abbrev pub choosing : Exp → M Lowered → Bool → M Lowered → M Lowered
@@ -155,10 +176,6 @@ module _ (R : Records) where
       bind (jumpIf (has || leaves v)) (λ past.
       bind (patchHere toElse) (λ _.
       bind branch (λ w. meet v w past))))))
-
-  -- A loop's end: unit where it has a break value, and just past that its breaks land.
-  abbrev pub exitLoop : ℕ → Bool → M Lowered
-  exitLoop count hasv = bind (emitIf hasv UnitOp) (λ _. bind (land count) (λ _. ret (lowered hasv)))
 
   -- The test of a `while`, unless it is endless.
   abbrev pub testing : Exp → M (Option ℕ)
@@ -175,11 +192,6 @@ module _ (R : Records) where
       bind (emit (Jump top)) (λ _.
       bind leaveLoop (λ count.
       bind (patchIf exit) (λ _. exitLoop count hasv)))))))))
-
-  -- The test of a `do`: under `until` a jump straight back where it is false.
-  abbrev pub roundTest : Bool → Position → ℕ → M (Unit {0})
-  roundTest true p top = done (emitAt (JumpIfFalse top) p)
-  roundTest false p top = bind (emitAt (JumpIfFalse unset) p) (λ exit. bind (emit (Jump top)) (λ _. patchHere exit))
 
   abbrev pub doing : Bool → Exp → Position → Bool → M Lowered → M Lowered
   doing until e mark hasv body =
@@ -252,16 +264,6 @@ module _ (R : Records) where
   bringing (Some e) hasv = bind (expression e) (λ _. done (emit (Rotate 0)))
   bringing None true = bind (emit UnitOp) (λ _. done (emit (Rotate 0)))
   bringing None false = ret tt
-
-  -- Handlers and iterators above a floor are given up.
-  abbrev pub givingUp : ℕ → ℕ → M (Unit {0})
-  givingUp hands its =
-      bind (setHandlers (λ h. h)) (λ h. bind (emits (h - hands) PopHandler) (λ _.
-      bind (setIters (λ i. i)) (λ i. emits (i - its) IterDrop)))
-
-  abbrev pub owned : Bool → ℕ
-  owned true = 1
-  owned false = 0
 
   abbrev pub breaking : Option Exp → Option Loop → M Lowered
   breaking e None = fail OutsideLoop
