@@ -11,7 +11,10 @@ impl<T: Copy> Stack64<T> {
     pub fn new(blank: T) -> Stack64<T>
         ensures { λ r. ⌜ listed r ≡ [] ⌝ }
     {
-        Stack64 { cells: [blank; 64], height: 0 }
+        Stack64 {
+            cells: [blank; 64],
+            height: 0,
+        }
     }
 
     // One element more, if there is room.

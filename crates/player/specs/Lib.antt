@@ -1,0 +1,5 @@
+pub mod Modes
+pub mod Players
+pub mod States
+pub mod Replies
+pub mod Blank
