@@ -1,3 +1,2 @@
 pub mod Slots
 pub mod Plays
-pub mod Fills

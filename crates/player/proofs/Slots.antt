@@ -1,19 +1,15 @@
 -- How the live slots change with their count and the caller's memory.
-use mathlib.Core.Path.{_≡_, refl, sym, ap, _∙_}
+use mathlib.Core.Path.{_≡_, refl, sym}
 use mathlib.Core.List.{List, [], _∷_, _++_}
-use Prim.Native.Nat.{ℕ, zero, suc, _+_, _-_, _<_, _≤_}
+use Prim.Native.Nat.{ℕ, zero, suc, _+_, _<_, _≤_}
+use native.Mathlib.Nat.{le-of-suc-le-suc, not-suc-le-zero}
 use native.Mathlib.Omega.{arith}
-use lib.ListN.{length, getD, set, take, drop, length-set}
-use Rattle.std.proofs.shelf.Lists.{take-more, take-more-set, length-take-le, take-take}
+use lib.ListN.{length, getD, set, take, length-set}
 use lib.Seq.{take-set-lt}
-use mathlib.Core.Bool.{cond}
-use lib.Dec.{eqb}
-use native.Mathlib.Nat.{le-of-suc-le-suc, not-suc-le-zero, add-zero}
-use borrow.Author.Tests.{eq-eqb, ne-eqb}
-use Rattle.std.specs.declared.option.Option.{Option}
+use Rattle.std.proofs.shelf.Lists.{take-more-set, length-take-le, take-take}
 use Rattle.std.specs.declared.option.Option.the-variants.{Some, None}
 use Rattle.code.specs.declared.talk.Slot.{Slot}
-use Rattle.meaning.specs.Machine.{Locals, add, cut, slotAt, put, newestFrom, newest}
+use Rattle.meaning.specs.Machine.{Locals, add, cut, slotAt, put}
 use Rattle.player.specs.Players.{held}
 
 same : (a b : ℕ) (xs ys : List Slot) → a ≡ b → xs ≡ ys → _≡_ {A = Locals} (record { room = a; live = xs }) (record { room = b; live = ys })
@@ -45,32 +41,3 @@ pub slot-past : (xs : List Slot) (i : ℕ) → length xs ≤ i → slotAt i xs �
 slot-past [] i h = refl
 slot-past (x ∷ xs) zero h = absurd (not-suc-le-zero h)
 slot-past (x ∷ xs) (suc i) h = slot-past xs i (le-of-suc-le-suc h)
-
-newest-push : (x i : ℕ) (o : Option ℕ) (xs : List Slot) (s : Slot) → newestFrom x i o (xs ++ s ∷ []) ≡ cond (eqb (s .name) x) (Some (i + length xs)) (newestFrom x i o xs)
-newest-push x i o [] s = ap (λ k. cond (eqb (s .name) x) (Some k) o) (sym (add-zero i))
-newest-push x i o (y ∷ xs) s =
-    let e : (i + 1) + length xs ≡ i + suc (length xs) = omega arith in
-    newest-push x (i + 1) (cond (eqb (y .name) x) (Some i) o) xs s ∙ ap (λ k. cond (eqb (s .name) x) (Some k) (newestFrom x (i + 1) (cond (eqb (y .name) x) (Some i) o) xs)) e
-
-pub newest-none : (x : ℕ) (xs : List Slot) → newest x (take 0 xs) ≡ None
-unfolding newest
-newest-none x xs = refl
-
-pub newest-more : (x i : ℕ) (d : Slot) (xs : List Slot) → i < length xs → newest x (take (i + 1) xs) ≡ cond (eqb (getD xs i d .name) x) (Some i) (newest x (take i xs))
-unfolding newest
-newest-more x i d xs h =
-    let l : i ≤ length xs = omega arith in
-    let e : 0 + length (take i xs) ≡ i = omega (arith, length-take-le i xs l) in
-    ap (newestFrom x 0 None) (take-more xs i d h) ∙ newest-push x 0 None (take i xs) (getD xs i d) ∙ ap (λ k. cond (eqb (getD xs i d .name) x) (Some k) (newest x (take i xs))) e
-
-pub newest-here : (x i : ℕ) (d : Slot) (xs : List Slot) → 0 < i → i ≤ length xs → getD xs (i - 1) d .name ≡ x → newest x (take i xs) ≡ Some (i - 1)
-newest-here x i d xs p h e =
-    let k : i ≡ (i - 1) + 1 = omega arith in
-    let l : i - 1 < length xs = omega arith in
-    ap (λ j. newest x (take j xs)) k ∙ newest-more x (i - 1) d xs l ∙ ap (λ b. cond b (Some (i - 1)) (newest x (take (i - 1) xs))) (eq-eqb (getD xs (i - 1) d .name) x e)
-
-pub newest-not : (x i : ℕ) (d : Slot) (xs : List Slot) → 0 < i → i ≤ length xs → (getD xs (i - 1) d .name ≡ x → ⊥) → newest x (take i xs) ≡ newest x (take (i - 1) xs)
-newest-not x i d xs p h e =
-    let k : i ≡ (i - 1) + 1 = omega arith in
-    let l : i - 1 < length xs = omega arith in
-    ap (λ j. newest x (take j xs)) k ∙ newest-more x (i - 1) d xs l ∙ ap (λ b. cond b (Some (i - 1)) (newest x (take (i - 1) xs))) (ne-eqb (getD xs (i - 1) d .name) x e)

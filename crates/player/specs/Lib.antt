@@ -2,4 +2,3 @@ pub mod Modes
 pub mod Players
 pub mod States
 pub mod Replies
-pub mod Blank

@@ -1,8 +1,5 @@
 -- What the calls of the code and their results say, in the words of the rules.
 use mathlib.Core.Bool.{Bool, true, false}
-use Prim.Native.Nat.{ℕ}
-use Rattle.std.specs.declared.option.Option.{Option}
-use Rattle.std.specs.declared.option.Option.the-variants.{Some, None}
 use Rattle.std.specs.declared.result.Result.{Result}
 use Rattle.std.specs.declared.result.Result.the-variants.{Ok, Err}
 use Rattle.records.specs.declared.refusals.Refusal.{Refusal}
@@ -48,11 +45,6 @@ resultOf f (Err e) = declined (numberOf e)
 
 abbrev pub writtenOf : Unit {0} → Said
 writtenOf u = taken
-
--- The number of a refusal, if there is one.
-abbrev pub refusalOf : Result (Unit {0}) Refusal → Option ℕ
-refusalOf (Ok u) = None
-refusalOf (Err e) = Some (numberOf e)
 
 -- Is a reply one that a call can get?
 abbrev pub suits : Call → Reply → Bool

@@ -7,4 +7,4 @@ pub use kinds::Mode;
 pub use kinds::Outcome;
 pub use kinds::Reply;
 pub use machine::Player;
-pub use machine::fits;
+pub use slot_memory::fits;

@@ -6,7 +6,6 @@ mod steps;
 mod throws;
 
 use crate::kinds::Mode;
-pub use calls::fits;
 use code::Handler;
 use code::Instr;
 use code::Row;

@@ -1,4 +1,5 @@
 mod moves;
+mod reads;
 
 ghost use Prim.Native.Nat.{_≤_};
 ghost use mathlib.Core.Path.{_≡_};

@@ -1,6 +1,5 @@
 use super::Player;
 use super::settling::accepts;
-use super::settling::blank;
 use crate::kinds::Answered;
 use crate::kinds::Call;
 use crate::kinds::Mode;
@@ -12,25 +11,15 @@ use code::Instr;
 use code::Row;
 use code::Slot;
 use records::Refusal;
+use slot_memory::blank;
 use stack64::Stack64;
-ghost use Rattle.meaning.specs.Calls.{Reply.found, answers, does, fits, loaded, looks, puts, runs, told};
-ghost use Rattle.player.specs.Blank.{blankSlot};
-ghost use Rattle.player.specs.Replies.{answeredOf, callOf, outcomeOf, refusalOf, replyOf, resultOf, suits, writtenOf};
+ghost use Rattle.meaning.specs.Calls.{Reply.found, answers, does, loaded, looks, puts, runs, told};
+ghost use Rattle.slot_memory.specs.Memory.{blankSlot};
+ghost use Rattle.player.specs.Replies.{answeredOf, callOf, outcomeOf, replyOf, resultOf, suits, writtenOf};
 ghost use Rattle.player.specs.States.{Kept, Tied, state};
 ghost use lib.ListN.{length, replicate};
 ghost use mathlib.Core.Bool.{true};
 ghost use mathlib.Core.Path.{_≡_};
-
-// Does slot memory hold the deepest slot count?
-pub fn fits(slots: &[Slot], deepest: usize) -> Result<(), Refusal>
-    ensures { λ r. ⌜ refusalOf r ≡ fits (length (now (slots .entry))) deepest ⌝ }
-{
-    if deepest > slots.len() {
-        Err(Refusal::SlotMemory)
-    } else {
-        Ok(())
-    }
-}
 
 impl<'a> Player<'a> {
     // A player at the first operation, no slot live.

@@ -7,11 +7,10 @@ use code::Slot;
 ghost use Prim.Native.Nat.{_<_};
 ghost use Rattle.meaning.specs.Calls.{after, answered, handleOf, lookup, overwritten, told};
 ghost use Rattle.meaning.specs.Machine.{resume, takes};
-ghost use Rattle.player.specs.Blank.{blankSlot};
 ghost use Rattle.player.specs.Players.{Wrote, locals, mach};
 ghost use Rattle.player.specs.Replies.{answeredOf};
 ghost use Rattle.player.specs.States.{Kept, state};
-ghost use lib.ListN.{length, replicate};
+ghost use lib.ListN.{length};
 ghost use mathlib.Core.Path.{_≡_};
 
 // Does an answer suit what it is for?
@@ -24,18 +23,6 @@ pub fn accepts(purpose: Purpose, answer: Answer) -> bool
         (_, Answer::Value(_)) => true,
         (Purpose::Assigned | Purpose::Advance(_), Answer::Done) => true,
         (_, Answer::Done) => false,
-    }
-}
-
-pub fn blank(slots: &mut [Slot])
-    ensures { λ _. ⌜ now (slots .exit) ≡ replicate (length (now (slots .entry))) blankSlot ⌝ }
-{
-    for i in 0..slots.len() {
-        slots[i] = Slot {
-            name: 0,
-            handle: 0,
-            constant: false,
-        };
     }
 }
 

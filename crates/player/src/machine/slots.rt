@@ -1,5 +1,6 @@
 use super::Player;
 use code::Slot;
+use slot_memory::find;
 ghost use Prim.Native.Nat.{_<_, _≤_};
 ghost use Rattle.meaning.specs.Machine.{cut, newest, put};
 ghost use Rattle.player.specs.Players.{Declared, Got, Slotted, locals};
@@ -55,11 +56,6 @@ impl<'a> Player<'a> {
         ensures { λ r. ⌜ r ≡ newest name (locals (now (self .entry)) .live) ⌝ }
     {
         let slots = &*self.slots;
-        for i in (0..self.live).rev() {
-            if slots[i].name == name {
-                return Some(i);
-            }
-        }
-        None
+        find(&slots[0..self.live], name)
     }
 }

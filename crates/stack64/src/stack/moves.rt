@@ -1,7 +1,7 @@
 use super::Stack64;
 ghost use Prim.Native.Nat.{_≤_, _<_, _-_};
 ghost use Rattle.stack64.specs.Listed.{listed};
-ghost use Rattle.stack64.specs.Moves.{Pushed, Popped, Newest, Inserted, below};
+ghost use Rattle.stack64.specs.Moves.{Inserted, Popped, Pushed, below};
 ghost use lib.ListN.{drop, length};
 ghost use mathlib.Core.List.{[]};
 ghost use mathlib.Core.Path.{_≡_};
@@ -47,22 +47,6 @@ impl<T: Copy> Stack64<T> {
         if n < self.height {
             self.height = n;
         }
-    }
-
-    pub fn len(&self) -> usize
-        ensures { λ r. ⌜ r ≡ length (listed (now (self .entry))) ⌝ }
-    {
-        self.height
-    }
-
-    // The newest, which stays.
-    pub fn newest(&self) -> Option<T>
-        ensures { λ r. ⌜ Newest (listed (now (self .entry))) r ⌝ }
-    {
-        if self.height == 0 {
-            return None;
-        }
-        Some(self.cells[self.height - 1])
     }
 
     // One element more, below the newest `n`, if there are so many and there is room.

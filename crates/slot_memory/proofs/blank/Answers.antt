@@ -1,7 +1,7 @@
 use native.Mathlib.Omega.{arith}
-use Rattle.player.specs.Blank.{blankSlot}
-use Rattle.player.proofs.Fills.{fill-more, fill-all}
-use Rattle.player.proofs.machine.settling.blank.Needs as need
+use Rattle.slot_memory.specs.Memory.{blankSlot}
+use Rattle.slot_memory.proofs.Fills.{fill-more, fill-all}
+use Rattle.slot_memory.proofs.blank.Needs as need
 
 pub loop-i-again : need.loop-i-again
 loop-i-again c = fill-more _ _ blankSlot _ (c .loop-i .inv) (c .loop-i-test .taken)
