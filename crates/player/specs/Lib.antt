@@ -1,0 +1,4 @@
+pub mod Modes
+pub mod Players
+pub mod States
+pub mod Replies

@@ -1,0 +1,3 @@
+mod stack;
+
+pub use stack::Stack64;
