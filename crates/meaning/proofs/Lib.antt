@@ -21,3 +21,15 @@ pub mod Heads
 pub mod Sim
 pub mod SpelledTree
 pub mod Together
+pub mod Monad
+pub mod Aims
+pub mod Tables
+pub mod Standing
+pub mod Plain
+pub mod Leaving
+pub mod Blocks
+pub mod Choosing
+pub mod Rounds
+pub mod Going
+pub mod Trying
+pub mod Bridge

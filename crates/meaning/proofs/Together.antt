@@ -35,8 +35,8 @@ whole lowers R m s W room codeRoom places accepted lowered law set fit =
     let n = length (T .names) in
     record {
       agreement = agreement ops rows T W room (R .keep) B M (L .distinct)
-        (simulation code rows T W room (M .heights) (M .outside) (length (R .exprs)) (R .keep) B law (L .distinct) (omega arith) (M .stands));
+          (simulation code rows T W room (M .heights) (M .outside) (length (R .exprs)) (R .keep) B law (L .distinct) (omega arith) (M .stands));
       declines = λ cs c. declining code rows n c _;
       counts = λ cs k. count-right code rows n k _;
-      suited = λ cs. calls-suited code rows n room cs
+      suited = λ cs. calls-suited code rows n room cs;
     }

@@ -28,8 +28,8 @@ pub record Promise (B : Block) (ops : List Instr) (rows : List Row) (T : Tables)
   pub declines : (cs : List Call) (c : Call) → let code = setCode W rows ops in Declining code rows (length (T .names)) c (afterCalls code rows (length (T .names)) cs (loaded room))
   -- a run's count is the number of its steps
   pub counts :
-    (cs : List Call) (n : ℕ) → let code = setCode W rows ops in let s = afterCalls code rows (length (T .names)) cs (loaded room) in
-    let t = does code rows (length (T .names)) (run n) s in CountRight code rows n s (t .reply) (t .left)
+      (cs : List Call) (n : ℕ) → let code = setCode W rows ops in let s = afterCalls code rows (length (T .names)) cs (loaded room) in
+      let t = does code rows (length (T .names)) (run n) s in CountRight code rows n s (t .reply) (t .left)
   -- while a question waits, the player takes the answers that the question takes
   pub suited : (cs : List Call) → Suited (afterCalls (setCode W rows ops) rows (length (T .names)) cs (loaded room))
 
