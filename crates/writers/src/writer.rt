@@ -45,6 +45,7 @@ pub trait Writer {
         out: &mut [Instr],
     ) -> Result<usize, Refusal>
         requires checked { ⌜ exprFault (records (now script)) ≡ none ⌝ }
+        requires few { ⌜ length (now (now script .exprs)) < 2 ^ 32 ⌝ }
         requires numbered { ⌜ length (now names) < 2 ^ 32 ⌝ }
         ensures answer { λ r. ⌜ r ≡ replied (means (now (self .entry)) (records (now (script .entry))) (spelled (records (now (script .entry))) (now (names .entry)))) expr (length (now (out .entry))) ⌝ }
         ensures after { λ _. ⌜ now (out .exit) ≡ filled (means (now (self .entry)) (records (now (script .entry))) (spelled (records (now (script .entry))) (now (names .entry)))) expr (now (out .entry)) ⌝ };
