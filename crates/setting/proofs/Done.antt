@@ -1,7 +1,7 @@
 -- All pieces stand and all targets are moved: the set code stands.
 use mathlib.Core.Path.{_≡_, refl, sym, ap, ap₂, _∙_}
 use mathlib.Core.List.{List, [], _∷_, _++_, append-assoc}
-use mathlib.Core.Bool.{Bool, true, false, _&&_}
+use mathlib.Core.Bool.{Bool, true, false, cond, _&&_}
 use Prim.Native.Nat.{ℕ, zero, suc, _+_, _-_, _<_, _≤_}
 use native.Mathlib.Omega.{arith}
 use lib.ListN.{length, getD, take, drop, set, replicate, length-append, take-append-drop}
@@ -22,10 +22,10 @@ use Rattle.records.specs.Numbers.{numberOf}
 use Rattle.std.specs.declared.result.Result.{Result}
 use Rattle.std.specs.declared.result.Result.the-variants.{Ok, Err}
 use Rattle.meaning.specs.Writer.{Writer}
-use Rattle.meaning.specs.SetCode.{exprOf, targetOf, targetFine, targetsFine, moveOp, shiftAll, widthOf, width, placeOf, pieceOf, piece, setFrom, setCode}
+use Rattle.meaning.specs.SetCode.{exprOf, targetOf, targetFine, targetsFine, moveOp, shiftAll, widthOf, width, placeOf, pieceOf, piece, setFrom, setCode, setFault}
 use Rattle.meaning.proofs.Setting.{piece-length}
 use Rattle.blanks.proofs.Blanked.{blanked}
-use Rattle.setting.specs.Set.{numbered, fault, outcome, kept, padded, blank, moveAt, movedFrom, SetDone}
+use Rattle.setting.specs.Set.{numbered, fault, outcome, kept, padded, blank, moveAt, movedFrom, SetDone, SetBy}
 
 -- ## Targets inside more places
 
@@ -195,3 +195,17 @@ module _ (W : Writer) (R : Records) (names : List ℕ) (ops : List Instr) (rows 
           code = rw (d .0) (rest (omega (arith, d .1)) ∙ ap (λ (zs : List Instr). zs ++ replicate (room - n) blank) code ∙ ap (λ (k : ℕ). setCode W rows ops ++ replicate (room - k) blank) (sym size));
         }
     ends (Err x) is d = record { answer = rw d refl; code = rw d (rest (omega arith) ∙ ap (λ (k : ℕ). take k a ++ replicate (room - k) blank) is) }
+
+-- Accepted: nothing is refused, the count is that of the set code, which stands at the start.
+pub accepted : (W : Writer) (R : Records) (names : List ℕ) (ops : List Instr) (rows : List Row) (places : List ℕ) (out : List Instr) (n : ℕ) (places′ : List ℕ) (out′ : List Instr)
+    → SetBy W R names ops rows places out (Ok n) places′ out′
+    → (setFault W rows R ops (length out) (length places) ≡ None) × (n ≡ length (setCode W rows ops)) × (take n out′ ≡ setCode W rows ops)
+accepted W R names ops rows places out n places′ out′ s = go (ltb 65536 (length names)) (setFault W rows R ops (length out) (length places)) (s .answer) (s .code)
+  where
+    go : (t : Bool) (o : Option ℕ) → Ok n ≡ outcome (cond t (Some 10) o) (setCode W rows ops) → out′ ≡ padded blank (length out) (kept (cond t (Some 10) o) (setCode W rows ops))
+        → (o ≡ None) × (n ≡ length (setCode W rows ops)) × (take n out′ ≡ setCode W rows ops)
+    go true o e c = absurd (let z : _≡_ {A = ℕ} 0 1 = cc in omega arith)
+    go false None e c =
+        let q : n ≡ length (setCode W rows ops) = cc in
+        (refl, q, ap (take n) c ∙ take-at (setCode W rows ops) (replicate (length out - length (setCode W rows ops)) blank) n (sym q))
+    go false (Some k) e c = absurd (let z : _≡_ {A = ℕ} 0 1 = cc in omega arith)

@@ -59,7 +59,8 @@ module _ (R : Records) (names : List ℕ) (ops : List Instr) (rows : List Row) (
 
   -- What has passed the checks.
   pub record Passed : Type 0 where
-    pub few : length names ≤ 65536
+    pub numbered : length names ≤ 65536
+    pub few : length (R .exprs) ≤ 1048576
     pub low : room ≤ 4194304
     pub exprs : exprFault R ≡ none
     pub targets : targetsFine (length ops) ops ≡ true
@@ -90,7 +91,8 @@ module _ (R : Records) (names : List ℕ) (ops : List Instr) (rows : List Row) (
       let s₃ = or-parts (ltb 1048576 (length (R .exprs))) (ltb 4194304 (length ops) || ltb 4194304 room) (s₂ .1) in
       let s₄ = or-parts (ltb 4194304 (length ops)) (ltb 4194304 room) (s₃ .1) in
       record {
-        few = ltb-false 65536 (length names) (s .0);
+        numbered = ltb-false 65536 (length names) (s .0);
+        few = ltb-false 1048576 (length (R .exprs)) (s₃ .0);
         low = ltb-false 4194304 room (s₄ .1);
         exprs = c .0;
         targets = fine (targetsFine (length ops) ops) (d .0);

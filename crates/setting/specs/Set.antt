@@ -47,6 +47,14 @@ padded b room xs = xs ++ replicate (room - length xs) b
 abbrev pub blank : Instr
 blank = plain UnitOp
 
+-- What the call promises, for the memory that it is lent, its answer and the memory afterwards: the fault's number or
+-- the count; the code at the start and blanks after it, or blanks alone; no remembered places.
+pub record SetBy (W : Writer) (R : Records) (names : List ℕ) (ops : List Instr) (rows : List Row) (places : List ℕ) (out : List Instr)
+    (r : Result ℕ Refusal) (places′ : List ℕ) (out′ : List Instr) : Type 0 where
+  pub answer : numbered r ≡ outcome (fault W R names ops rows (length out) (length places)) (setCode W rows ops)
+  pub code : out′ ≡ padded blank (length out) (kept (fault W R names ops rows (length out) (length places)) (setCode W rows ops))
+  pub forgotten : places′ ≡ replicate (length places) 0
+
 -- ## Inside
 
 -- A segment put into code from a place on, its targets moved on; or why not.

@@ -1,11 +1,9 @@
 // The call.
 
-ghost use mathlib.Core.Path.{_≡_};
-ghost use lib.ListN.{length, replicate};
+ghost use lib.ListN.{length};
 ghost use Rattle.records.specs.Tree.{records};
-ghost use Rattle.meaning.specs.Compiled.{spelled};
-ghost use Rattle.meaning.specs.SetCode.{setCode};
-ghost use Rattle.setting.specs.Set.{numbered, fault, outcome, kept, padded, blank, SetDone};
+ghost use Rattle.writers.specs.Write.{writerFor};
+ghost use Rattle.setting.specs.Set.{SetBy, SetDone};
 use crate::checks::check;
 use crate::places::move_targets;
 use crate::places::put_pieces;
@@ -28,7 +26,7 @@ fn set_code<W: Writer>(
     places: &mut [u32],
     out: &mut [Instr],
 ) -> Result<usize, Refusal>
-    ensures { λ r. ⌜ SetDone (W·Writer .means (now (writer .entry)) (records (now (script .entry))) (spelled (records (now (script .entry))) (now (names .entry)))) (records (now (script .entry))) (now (names .entry)) (now (ops .entry)) (now (rows .entry)) (length (now (places .entry))) (length (now (out .entry))) r (now (out .exit)) ⌝ }
+    ensures { λ r. ⌜ SetDone (writerFor (W·Writer .means (now (writer .entry))) (now (script .entry)) (now (names .entry))) (records (now (script .entry))) (now (names .entry)) (now (ops .entry)) (now (rows .entry)) (length (now (places .entry))) (length (now (out .entry))) r (now (out .exit)) ⌝ }
 {
     check(script, names, ops, rows, out.len(), places.len())?;
     let count = put_pieces(writer, script, names, ops, rows, places, out)?;
@@ -47,9 +45,7 @@ pub fn set<W: Writer>(
     places: &mut [u32],
     out: &mut [Instr],
 ) -> Result<usize, Refusal>
-    ensures answer { λ r. ⌜ numbered r ≡ outcome (fault (W·Writer .means (now (writer .entry)) (records (now (script .entry))) (spelled (records (now (script .entry))) (now (names .entry)))) (records (now (script .entry))) (now (names .entry)) (now (ops .entry)) (now (rows .entry)) (length (now (out .entry))) (length (now (places .entry)))) (setCode (W·Writer .means (now (writer .entry)) (records (now (script .entry))) (spelled (records (now (script .entry))) (now (names .entry)))) (now (rows .entry)) (now (ops .entry))) ⌝ }
-    ensures code { λ _. ⌜ now (out .exit) ≡ padded blank (length (now (out .entry))) (kept (fault (W·Writer .means (now (writer .entry)) (records (now (script .entry))) (spelled (records (now (script .entry))) (now (names .entry)))) (records (now (script .entry))) (now (names .entry)) (now (ops .entry)) (now (rows .entry)) (length (now (out .entry))) (length (now (places .entry)))) (setCode (W·Writer .means (now (writer .entry)) (records (now (script .entry))) (spelled (records (now (script .entry))) (now (names .entry)))) (now (rows .entry)) (now (ops .entry)))) ⌝ }
-    ensures places { λ _. ⌜ now (places .exit) ≡ replicate (length (now (places .entry))) 0 ⌝ }
+    ensures { λ r. ⌜ SetBy (writerFor (W·Writer .means (now (writer .entry))) (now (script .entry)) (now (names .entry))) (records (now (script .entry))) (now (names .entry)) (now (ops .entry)) (now (rows .entry)) (now (places .entry)) (now (out .entry)) r (now (places .exit)) (now (out .exit)) ⌝ }
 {
     let result = set_code(writer, script, names, ops, rows, places, out);
     let count = match result {

@@ -8,9 +8,9 @@ ghost use lib.ListN.{length, getD};
 ghost use Rattle.std.specs.declared.option.Option.the-variants.{None};
 ghost use Rattle.records.specs.Tree.{records};
 ghost use Rattle.records.specs.Checks.{exprFault};
-ghost use Rattle.meaning.specs.Compiled.{spelled};
 ghost use Rattle.meaning.specs.SetCode.{targetOf, targetFine, targetsFine, moveOp, exprOf, shiftAll};
 ghost use Rattle.meaning.specs.Writer.{shiftOp};
+ghost use Rattle.writers.specs.Write.{writerFor};
 ghost use Rattle.setting.specs.Set.{SegmentPut, PiecePut, Placed, movedFrom, blank};
 use crate::targets::expr_of;
 use crate::targets::retargeted;
@@ -60,10 +60,11 @@ fn put_segment<W: Writer>(
     at: usize,
 ) -> Result<usize, Refusal>
     requires checked { ⌜ exprFault (records (now script)) ≡ none ⌝ }
+    requires few { ⌜ length (now (now script .exprs)) ≤ 1048576 ⌝ }
     requires numbered { ⌜ length (now names) ≤ 65536 ⌝ }
     requires room { ⌜ length (now out) ≤ 4194304 ⌝ }
     requires within { ⌜ at ≤ length (now out) ⌝ }
-    ensures { λ r. ⌜ SegmentPut (W·Writer .means (now (writer .entry)) (records (now (script .entry))) (spelled (records (now (script .entry))) (now (names .entry)))) expr at (now (out .entry)) r (now (out .exit)) ⌝ }
+    ensures { λ r. ⌜ SegmentPut (writerFor (W·Writer .means (now (writer .entry))) (now (script .entry)) (now (names .entry))) expr at (now (out .entry)) r (now (out .exit)) ⌝ }
 {
     let length = writer.write(script, names, expr, &mut out[at..])?;
     let end = at + length;
@@ -82,10 +83,11 @@ fn put_piece<W: Writer>(
     at: usize,
 ) -> Result<usize, Refusal>
     requires checked { ⌜ exprFault (records (now script)) ≡ none ⌝ }
+    requires few { ⌜ length (now (now script .exprs)) ≤ 1048576 ⌝ }
     requires numbered { ⌜ length (now names) ≤ 65536 ⌝ }
     requires room { ⌜ length (now out) ≤ 4194304 ⌝ }
     requires within { ⌜ at ≤ length (now out) ⌝ }
-    ensures { λ r. ⌜ PiecePut (W·Writer .means (now (writer .entry)) (records (now (script .entry))) (spelled (records (now (script .entry))) (now (names .entry)))) (now (rows .entry)) x at (now (out .entry)) r (now (out .exit)) ⌝ }
+    ensures { λ r. ⌜ PiecePut (writerFor (W·Writer .means (now (writer .entry))) (now (script .entry)) (now (names .entry))) (now (rows .entry)) x at (now (out .entry)) r (now (out .exit)) ⌝ }
 {
     if let Some(expr) = expr_of(rows, x.op) {
         return put_segment(writer, script, names, expr, out, at);
@@ -108,10 +110,11 @@ pub fn put_pieces<W: Writer>(
     out: &mut [Instr],
 ) -> Result<usize, Refusal>
     requires checked { ⌜ exprFault (records (now script)) ≡ none ⌝ }
+    requires few { ⌜ length (now (now script .exprs)) ≤ 1048576 ⌝ }
     requires numbered { ⌜ length (now names) ≤ 65536 ⌝ }
     requires room { ⌜ length (now out) ≤ 4194304 ⌝ }
     requires remembered { ⌜ length (now ops) ≤ length (now places) ⌝ }
-    ensures { λ r. ⌜ Placed (W·Writer .means (now (writer .entry)) (records (now (script .entry))) (spelled (records (now (script .entry))) (now (names .entry)))) (now (rows .entry)) (now (ops .entry)) (now (out .entry)) r (now (places .exit)) (now (out .exit)) ⌝ }
+    ensures { λ r. ⌜ Placed (writerFor (W·Writer .means (now (writer .entry))) (now (script .entry)) (now (names .entry))) (now (rows .entry)) (now (ops .entry)) (now (out .entry)) r (now (places .exit)) (now (out .exit)) ⌝ }
 {
     let mut at = 0;
     for i in 0..ops.len() {

@@ -8,8 +8,16 @@ use Rattle.std.specs.declared.result.Result.{Result}
 use Rattle.std.specs.declared.result.Result.the-variants.{Ok, Err}
 use Rattle.records.specs.declared.refusals.Refusal.{Refusal}
 use Rattle.records.specs.declared.refusals.Refusal.the-variants.{UnknownExpression, NoCodeRoom}
+use Rattle.records.specs.declared.types.Script.{Script}
+use Rattle.records.specs.Tree.{Records, records}
 use Rattle.code.specs.declared.ops.Instr.{Instr}
+use Rattle.meaning.specs.Reading.{Bytes}
+use Rattle.meaning.specs.Compiled.{spelled}
 use Rattle.meaning.specs.Writer.{Writer}
+
+-- A writer, for a script and the labels of its name table.
+abbrev pub writerFor : (Records → List Bytes → Writer) → Script → List ℕ → Writer
+writerFor means s names = means (records s) (spelled (records s) names)
 
 -- Exactly an unknown expression is refused as such, else exactly a slice with less room than the segment takes;
 -- otherwise the segment's length is answered.

@@ -9,9 +9,8 @@ ghost use Rattle.records.specs.Tree.{Records, records};
 ghost use Rattle.records.specs.Checks.{exprFault};
 ghost use Rattle.meaning.specs.Reading.{Bytes};
 ghost use Rattle.meaning.specs.Fed.{Tables};
-ghost use Rattle.meaning.specs.Compiled.{spelled};
 ghost use Rattle.meaning.specs.Writer.{Writer as Meaning, Lawful};
-ghost use Rattle.writers.specs.Write.{replied, filled};
+ghost use Rattle.writers.specs.Write.{writerFor, replied, filled};
 use code::Instr;
 use records::Refusal;
 use records::Script;
@@ -45,7 +44,8 @@ pub trait Writer {
         out: &mut [Instr],
     ) -> Result<usize, Refusal>
         requires checked { ⌜ exprFault (records (now script)) ≡ none ⌝ }
+        requires few { ⌜ length (now (now script .exprs)) < 2 ^ 32 ⌝ }
         requires numbered { ⌜ length (now names) < 2 ^ 32 ⌝ }
-        ensures answer { λ r. ⌜ r ≡ replied (means (now (self .entry)) (records (now (script .entry))) (spelled (records (now (script .entry))) (now (names .entry)))) expr (length (now (out .entry))) ⌝ }
-        ensures after { λ _. ⌜ now (out .exit) ≡ filled (means (now (self .entry)) (records (now (script .entry))) (spelled (records (now (script .entry))) (now (names .entry)))) expr (now (out .entry)) ⌝ };
+        ensures answer { λ r. ⌜ r ≡ replied (writerFor (means (now (self .entry))) (now (script .entry)) (now (names .entry))) expr (length (now (out .entry))) ⌝ }
+        ensures after { λ _. ⌜ now (out .exit) ≡ filled (writerFor (means (now (self .entry))) (now (script .entry)) (now (names .entry))) expr (now (out .entry)) ⌝ };
 }

@@ -25,6 +25,6 @@ returns g c =
     record {
       answer = rw (is .0) (e .answer);
       code = e .code;
-      places = blanked 0 places (c .blank-from-2 .last .items) 0 (omega arith) (c .blank-from-2 .kept .items) (c .blank-from-2 .ensures .past) (c .blank-from-2 .ensures .before)
+      forgotten = blanked 0 places (c .blank-from-2 .last .items) 0 (omega arith) (c .blank-from-2 .kept .items) (c .blank-from-2 .ensures .past) (c .blank-from-2 .ensures .before)
           ∙ ap (λ (k : ℕ). replicate k 0) (omega (arith, c .set-code-result .kept .places));
     }

@@ -20,7 +20,7 @@ returns-in-Break-check g c =
 pub put-pieces-requires : need.put-pieces-requires
 put-pieces-requires g c κs =
     let p = passed (records (c .args .script .now)) (c .args .names .now) (c .args .ops .now) (c .args .rows .now) (length (c .args .out .now)) (length (c .args .places .now)) (c .in-Continue-check .ensures tt) in
-    record { checked = p .exprs; numbered = p .few; room = p .low; remembered = p .remembered }
+    record { checked = p .exprs; few = p .few; numbered = p .numbered; room = p .low; remembered = p .remembered }
 
 pub returns-in-Break-count : need.returns-in-Break-count
 returns-in-Break-count g c =
