@@ -125,9 +125,13 @@ fn shown(reply: Reply) -> Shown {
 }
 
 // The reply to the last of some calls, with so much slot memory lent.
-fn last_over(slots: &mut [Slot], code: &[Instr], calls: &[Call]) -> Shown {
-    let rows = ROWS;
-    let mut player = Player::load(code, &rows, NAMES, slots);
+fn last_over<'x>(
+    slots: &'x mut [Slot],
+    rows: &'x [Row],
+    code: &'x [Instr],
+    calls: &[Call],
+) -> Shown {
+    let mut player = Player::load(code, rows, NAMES, slots);
     let mut reply = (0, 0, 0, 0);
     for call in calls {
         reply = shown(player.perform(*call));
@@ -138,7 +142,26 @@ fn last_over(slots: &mut [Slot], code: &[Instr], calls: &[Call]) -> Shown {
 
 fn last(code: &[Instr], calls: &[Call]) -> Shown {
     let mut slots = [BLANK; 4];
-    last_over(&mut slots, code, calls)
+    let rows = ROWS;
+    last_over(&mut slots, &rows, code, calls)
+}
+
+// The reply to a run when so many questions were answered.
+fn run_after<'x>(slots: &'x mut [Slot], rows: &'x [Row], code: &'x [Instr], times: u32) -> Shown {
+    let mut player = Player::load(code, rows, NAMES, slots);
+    for _ in 0..times {
+        let _ = player.perform(Call::Run(9));
+        let _ = player.perform(value(8));
+    }
+    let reply = shown(player.perform(Call::Run(9)));
+    player.close();
+    reply
+}
+
+fn after_answers(code: &[Instr], times: u32) -> Shown {
+    let mut slots = [BLANK; 4];
+    let rows = ROWS;
+    run_after(&mut slots, &rows, code, times)
 }
 
 fn declined(number: u32) -> Shown {
@@ -240,7 +263,11 @@ mod tests {
         ];
         check_eq(last(&code, &older), (7, 1, 0, 0))?;
         let mut few = [BLANK; 2];
-        check_eq(last_over(&mut few, &code, &[Call::Run(9)]), (3, 6, 0, 0))
+        let rows = ROWS;
+        check_eq(
+            last_over(&mut few, &rows, &code, &[Call::Run(9)]),
+            (3, 6, 0, 0),
+        )
     }
 
     #[test]
@@ -324,17 +351,8 @@ mod tests {
         check_eq(last(&arms, &[Call::Run(128)]), (1, 128, 0, 0))?;
         check_eq(last(&arms, &[Call::Run(129)]), (3, 129, 0, 0))?;
         let code = [unit(), instr(Op::IterInit), instr(Op::Jump(0))];
-        let rows = ROWS;
-        let mut slots = [BLANK; 1];
-        let mut player = Player::load(&code, &rows, NAMES, &mut slots);
-        for n in 0..64 {
-            check_eq(
-                shown(player.perform(Call::Run(9))),
-                (16, if n == 0 { 2 } else { 3 }, 0, 0),
-            )?;
-            check_eq(shown(player.perform(value(8))), (4, 0, 0, 0))?;
-        }
-        check_eq(shown(player.perform(Call::Run(9))), (3, 3, 0, 0))
+        check_eq(after_answers(&code, 63), (16, 3, 0, 0))?;
+        check_eq(after_answers(&code, 64), (3, 3, 0, 0))
     }
 
     #[test]
