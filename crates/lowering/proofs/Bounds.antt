@@ -30,12 +30,14 @@ cut xs s n a b p q = go (leb s (length xs)) refl
   where
     empty : (k m : ℕ) → length xs ≤ m → take k (drop m xs) ≡ []
     empty k m h = ap (λ (ys : List ℕ). take k ys) (drop-all m xs h) ∙ take-all k [] (omega arith)
+
     inside : s ≤ length xs → a ≡ s → (t : Bool) → leb (s + n) (length xs) ≡ t → take (b - s) (drop s xs) ≡ take n (drop s xs)
     inside h x true e = let k = leb-true (s + n) (length xs) e in let m : b - s ≡ n = omega arith in ap (λ (j : ℕ). take j (drop s xs)) m
     inside h x false e =
         let k = leb-false (s + n) (length xs) e in
         let l = length-drop s xs in
         take-all (b - s) (drop s xs) (omega arith) ∙ sym (take-all n (drop s xs) (omega arith))
+
     go : (t : Bool) → leb s (length xs) ≡ t → take (b - a) (drop a xs) ≡ take n (drop s xs)
     go true e =
         let h = leb-true s (length xs) e in

@@ -38,7 +38,10 @@ pub fn residual(c: &mut Lowering, rows: &mut Rows, kind: u32, number: u32) -> Re
     ensures did { λ r. ⌜ DidR (residualM kind number) (now (c .entry)) (rowsOf (now (rows .entry))) r (now (c .exit)) (rowsOf (now (rows .exit))) ⌝ }
 {
     let residual = add_row(rows, kind, number)?;
-    let _ = c.emit(Op::EvalAst { residual, rewind_scope: true })?;
+    let _ = c.emit(Op::EvalAst {
+        residual,
+        rewind_scope: true,
+    })?;
     Ok(())
 }
 
@@ -47,7 +50,10 @@ pub fn push_name(names: &mut Names, script: &Script, label: u32) -> Result<u32, 
     ensures lent { λ _. ⌜ SameLent most (now (names .entry)) (now (names .exit)) ⌝ }
     ensures did { λ r. ⌜ AddedName (enterName (records (now (script .entry))) label) (namesOf (now (names .entry))) r (namesOf (now (names .exit))) ⌝ }
 {
-    let words = Words { text: script.text, labels: script.labels };
+    let words = Words {
+        text: script.text,
+        labels: script.labels,
+    };
     let place = enter(names, label, &words)?;
     Ok(place as u32)
 }

@@ -11,4 +11,4 @@ abbrev pub Inv-loop-k : given.InvT-loop-k
 Inv-loop-k l =
     Lent (l .entry .c) (l .c)
     × ((rows : Pile Row) (names : Pile ℕ) (opers : Pile AssignOp) (slots : Pile ℕ) (block : Level)
-      → landing (l .first) (l .target) (st (l .entry .c) rows names opers slots (breaksOf (l .breaks)) block) ≡ landing (l .k) (l .target) (st (l .c) rows names opers slots (breaksOf (l .breaks)) block))
+    → landing (l .first) (l .target) (st (l .entry .c) rows names opers slots (breaksOf (l .breaks)) block) ≡ landing (l .k) (l .target) (st (l .c) rows names opers slots (breaksOf (l .breaks)) block))

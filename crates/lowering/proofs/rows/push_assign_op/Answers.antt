@@ -12,12 +12,18 @@ use Rattle.lowering.proofs.rows.push_assign_op.Needs as need
 pub returns-in-Break-place : need.returns-in-Break-place
 unfolding enterOper
 returns-in-Break-place c =
-    record { lent = search needs; did = λ code loops iters handlers limit deepest rows names slots breaks block.
-      let h = entered-did (firstSame sameOper (c .args .entry) 0 (opersOf (now (c .args .operators)) .held)) (c .args .entry) (opersOf (now (c .args .operators))) (opersOf (c .enter .last .table)) (Err (c .in-Break-place .field-0 .0)) (λ (p : Pile AssignOp). low code loops iters handlers limit deepest rows names p slots breaks block) (c .in-Break-place .ensures tt .did) in
-      search (needs, h) }
+    record {
+      lent = search needs;
+      did = λ code loops iters handlers limit deepest rows names slots breaks block.
+          let h = entered-did (firstSame sameOper (c .args .entry) 0 (opersOf (now (c .args .operators)) .held)) (c .args .entry) (opersOf (now (c .args .operators))) (opersOf (c .enter .last .table)) (Err (c .in-Break-place .field-0 .0)) (λ (p : Pile AssignOp). low code loops iters handlers limit deepest rows names p slots breaks block) (c .in-Break-place .ensures tt .did) in
+          search (needs, h);
+    }
 
 pub returns : need.returns
 unfolding enterOper
 returns c =
-    record { lent = search needs; did = λ code loops iters handlers limit deepest rows names slots breaks block.
-      entered-did (firstSame sameOper (c .args .entry) 0 (opersOf (now (c .args .operators)) .held)) (c .args .entry) (opersOf (now (c .args .operators))) (opersOf (c .enter .last .table)) (Ok (c .in-Continue-place .place)) (λ (p : Pile AssignOp). low code loops iters handlers limit deepest rows names p slots breaks block) (c .in-Continue-place .ensures tt .did) }
+    record {
+      lent = search needs;
+      did = λ code loops iters handlers limit deepest rows names slots breaks block.
+          entered-did (firstSame sameOper (c .args .entry) 0 (opersOf (now (c .args .operators)) .held)) (c .args .entry) (opersOf (now (c .args .operators))) (opersOf (c .enter .last .table)) (Ok (c .in-Continue-place .place)) (λ (p : Pile AssignOp). low code loops iters handlers limit deepest rows names p slots breaks block) (c .in-Continue-place .ensures tt .did);
+    }
