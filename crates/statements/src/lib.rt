@@ -1,0 +1,28 @@
+mod jumps;
+mod leaves;
+mod loops;
+mod trials;
+mod variables;
+
+pub use jumps::jump_if;
+pub use jumps::leaves_value;
+pub use jumps::meet;
+pub use jumps::round_test;
+pub use jumps::testing;
+pub use leaves::breaking;
+pub use leaves::calling;
+pub use leaves::continuing;
+pub use leaves::returning;
+pub use leaves::throwing;
+pub use loops::Round;
+pub use loops::begin_for;
+pub use loops::end_for;
+pub use loops::exit_loop;
+pub use loops::loop_variable;
+pub use loops::open_iterator;
+pub use trials::begin_catch;
+pub use trials::begin_try;
+pub use trials::end_body;
+pub use trials::end_catch;
+pub use variables::assigning;
+pub use variables::variable;
