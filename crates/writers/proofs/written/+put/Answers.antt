@@ -129,7 +129,7 @@ loop-item-holds t c =
     let on = c .in-Some .any in
     let d : decides (formOf (exprAt R e .form)) ≡ Some on = sym (c .in-Some .ensures tt ∙ ap decides (c .of-form .ensures)) in
     let s = list-size T R (c .pre .checked) e on d in
-    (omega arith, begin T R (c .pre .checked) e on d lo hi (c .args .at + c .items-size .result + 2) (c .args .at) (e + 1) (c .args .out .now) (add-one e))
+    (omega arith, begin T R (c .pre .checked) e on d lo hi _ (c .args .at) (e + 1) (c .args .out .now) (add-one e))
 
 pub put-place-requires : need.put-place-requires
 put-place-requires t c κs =
