@@ -1,3 +1,5 @@
+#![tactic(auto)]
+
 mod ops;
 mod shapes;
 mod talk;

@@ -324,7 +324,7 @@ fn enter(around: &mut Vec<Node>, place: usize, node: Node) -> Result<(), AllocEr
 pub fn outline(out: &mut Vec<u8>, script: &Script) -> Result<(), AllocError>
     ensures { OnOk result (out.new.items ≡ outline_text (records script.now) out.old.items) }
 {
-    let mut around: Vec<Node> = Vec::new(out.allocator());
+    let mut around: Vec<Node> = Vec::new(*out.allocator());
     for (place, node) in script.nodes.iter().enumerate() {
         leave(&mut around, place);
         put_line(out, script, around.as_slice(), place, node)?;

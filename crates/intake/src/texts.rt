@@ -11,7 +11,7 @@ const SHOWN: usize = 60;
 pub fn put_number(out: &mut Vec<u8>, number: usize) -> Result<(), AllocError>
     ensures { OnOk result (out.new.items ≡ numbered number out.old.items) }
 {
-    let text = format!(in out.allocator(); "{number}")?;
+    let text = format!(in *out.allocator(); "{number}")?;
     out.extend_from_slice(text.as_bytes())?;
     Ok(())
 }
@@ -28,7 +28,7 @@ pub fn put_position(out: &mut Vec<u8>, position: Position) -> Result<(), AllocEr
 pub fn indent(out: &mut Vec<u8>, depth: usize) -> Result<(), AllocError>
     ensures { OnOk result (out.new.items ≡ indented depth out.old.items) }
 {
-    let blanks = "  ".repeat(out.allocator(), depth)?;
+    let blanks = "  ".repeat(*out.allocator(), depth)?;
     out.extend_from_slice(blanks.as_bytes())
 }
 

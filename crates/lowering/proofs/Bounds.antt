@@ -1,8 +1,7 @@
 -- Break counts of the loops' table, and names by their bytes.
-use Rattle.std.proofs.Common.{◌≡◌, ℕ, zero, suc, ◌+◌, ◌-◌, ◌<◌, ◌≤◌, min, Bool, true, false, cond, leb, List, [], ◌∷◌, length, get_or, take, drop, set, Decides, sym, refl, ap, ◌∙◌, subst, arith, leb-false, leb-true}
+use Rattle.std.proofs.Common.{◌≡◌, ℕ, zero, suc, ◌+◌, ◌-◌, ◌≤◌, min, Bool, true, false, leb, List, [], ◌∷◌, length, take, drop, set, Decides, sym, refl, ap, ◌∙◌, arith, leb-false, leb-true}
 use Rattle.std.proofs.lemmas.List.{length-drop, drop_all, take_all}
 use Rattle.code.specs.declared.shapes.Loop.{Loop}
-use Rattle.meaning.specs.LowerState.{no_loop}
 use Rattle.meaning.specs.Reading.{same_bytes}
 use Rattle.lowering.specs.Fit.{Counted}
 use Rattle.lowering.specs.Names.{bytes-equal, equal-bytes}

@@ -1,6 +1,6 @@
 -- Names are the same when all their bytes are: an equivalence. So are operator rows by their four numbers.
-use Rattle.std.specs.Prelude.{◌≡◌, ℕ, Bool, true, false, cond, ◌&&◌, List, [], ◌∷◌, take, drop, ◌==◌, slice_index_or, refl}
-use Rattle.std.proofs.Common.{sym, ap, ◌∙◌}
+use Rattle.std.specs.Prelude.{◌≡◌, ℕ, Bool, true, false, ◌&&◌, [], ◌∷◌, take, drop, ◌==◌, slice_index_or, refl}
+use Rattle.std.proofs.Common.{sym, ◌∙◌}
 use borrow.Author.Tests.{eq-eqb, eqb-true, clash}
 use Rattle.records.specs.Tree.{no_label}
 use Rattle.code.specs.declared.ops.AssignOp.{AssignOp}

@@ -1,5 +1,5 @@
 -- The compiler's memory as the state that the rules of lowering speak of, and what it is to do what a rule says.
-use Rattle.std.specs.Prelude.{◌≡◌, ℕ, ◌+◌, ◌-◌, ◌<◌, List, take, Ok, Err, Result, slice_index_or}
+use Rattle.std.specs.Prelude.{◌≡◌, ℕ, ◌+◌, ◌-◌, List, take, Ok, Err, Result, slice_index_or}
 use Rattle.records.specs.declared.refusals.Refusal.{Refusal}
 use Rattle.code.specs.declared.ops.Row.{Row}
 use Rattle.code.specs.declared.ops.Instr.{Instr}
@@ -7,7 +7,7 @@ use Rattle.code.specs.declared.ops.AssignOp.{AssignOp}
 use Rattle.code.specs.declared.shapes.Loop.{Loop}
 use Rattle.meaning.specs.LowerState.{Low, Pile, Level, Out, Out.ok, Out.no, M, no_loop}
 use Rattle.tables.specs.declared.stack.Stack.{Stack}
-use Rattle.tables.specs.Stacks.{pile, contents, SameLent}
+use Rattle.tables.specs.Stacks.{pile, contents}
 use Rattle.lowering.specs.declared.state.Lowering.{Lowering}
 use Rattle.lowering.specs.declared.state.Level.{Level as LevelRecord}
 

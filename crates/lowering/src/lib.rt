@@ -1,3 +1,5 @@
+#![tactic(auto)]
+
 mod emitting;
 mod loops;
 mod rows;

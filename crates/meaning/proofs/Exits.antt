@@ -10,7 +10,7 @@ use Rattle.code.specs.declared.talk.Handler.{Handler}
 use Rattle.code.specs.declared.talk.Question.{Question}
 use Rattle.code.specs.declared.talk.Purpose.{Purpose}
 use Rattle.code.specs.declared.talk.Answer.TheVariants.{Value, Done as DoneAnswer}
-use Rattle.code.specs.declared.talk.End.TheVariants.{Value as Gives, Fault as Faults}
+use Rattle.code.specs.declared.talk.End.TheVariants.{Value as Gives}
 use Rattle.meaning.specs.Machine.{Locals, Mach, Effect, Effect.next, Effect.goto, Effect.fault as faults, Effect.stuck, branch, exec, resume}
 use Rattle.meaning.specs.Throws.{keep, catches}
 use Rattle.meaning.specs.Calls.{State, State.ready, State.waits as waiting, State.ended, State.halted, instr_at, landed, after}

@@ -15,7 +15,7 @@ use Rattle.meaning.specs.Calls.{State.ready, after}
 use Rattle.meaning.specs.Reading.{Bytes, Sign, sign_of, Ask.statement, Ask.combine, Ask.assign as assign_to, Ask.iterate, Ask.next as next_item, Cell, Scope, no_scope, seek, declares, sets_inner, World, truth, gotten, reading}
 use Rattle.meaning.specs.Run.{St, Out, Out.value, Out.broke, Out.returned, Out.fault, bind_g, bind_v, bind_n, opened, declared, closing, round_on, rounds, in_for, Running, scoped, naming, signed, setting, combining, assigning, endless, evaluate_any, while_round, run_head, asks}
 use Rattle.meaning.specs.Fed.{conf, sign_of_row}
-use Rattle.meaning.proofs.Place.{Scopes, depth, add_name, resolve, catch_scope, Ctx, heights, one, in_scopes, in_try_code, up_iters, deeper_loop, ExpAny, OperAny, NameAny, Assigns, Declares, Tests, Exits, CodeHead, while_loop, for_loop}
+use Rattle.meaning.proofs.Place.{Scopes, depth, add_name, resolve, catch_scope, Ctx, heights, in_scopes, in_try_code, up_iters, deeper_loop, ExpAny, OperAny, NameAny, Assigns, Declares, Tests, Exits, CodeHead, while_loop, for_loop}
 use Rattle.meaning.proofs.Rel.{Env, Named, Rel, rel-length, rel-scopes, opens, closes, declared-rel, Resolved, resolves, assigns-rel, reused, shares, introduces, forgets, stored}
 use Rattle.meaning.proofs.Hear.{Frame, mach, around, Ev, Ins, hop, Suits}
 use Rattle.meaning.proofs.Exits.{tossed, layout, Done, Low, Meets, level, act_to, act, op, meets, done, dropped, glued, unwound, thrown, asking, answered, advanced, evaluated, tested, sequel, closed, outer, counted, led}

@@ -16,7 +16,7 @@ use Rattle.meaning.specs.Calls.{State, State.ready, State.waits as waiting, Stat
 use Rattle.meaning.specs.Reading.{Ask, Ask.expression, Ask.name, Event, Event.value as value_e, Event.done as done_e, Event.fault as fault_e, Event.put as put_e, valued, doable, Cell, Scope, seek, sets_inner, World, St, st, Around, Heard, Heard.value as heard_v, Heard.done as heard_d, Heard.fault as heard_f, Heard.waits as heard_w, hears, asks, Truth, Truth.yes, Truth.no, Truth.neither, truth, Reading, Reading.unit as unit_r, Reading.yes as yes_r, Reading.opaque as opaque_r, Reading.no as no_r, Reading.name as name_r, Reading.all as all_r, Reading.any as any_r, Items, Items.end, Items.item, Got, Got.got, Got.bad, Got.dry, gotten, bind_got, decides, reads, reading, goes_through}
 use Rattle.meaning.specs.Fed.{in_words, find_slot, poke_slot, Conf, conf, noted, answered_by, move, Comes, Comes.here, Comes.then}
 use Rattle.meaning.specs.Agreement.{Heights, armed, heights_of}
-use Rattle.meaning.proofs.Place.{Scopes, heights}
+use Rattle.meaning.proofs.Place.{Scopes}
 use Rattle.meaning.proofs.Layouts.{Level}
 use Rattle.meaning.proofs.Rel.{Env, locals, Rel, look-agrees, puts}
 

@@ -1,17 +1,16 @@
 -- Where set code stands, and what a fed player has to do: the goal of the simulation.
-use Rattle.std.proofs.Common.{◌≡◌, ℕ, zero, suc, ◌+◌, ◌<◌, ◌≤◌, Bool, true, false, cond, List, [], ◌∷◌, length, get_or, Some, None, Option}
+use Rattle.std.proofs.Common.{◌≡◌, ℕ, suc, ◌+◌, ◌<◌, ◌≤◌, Bool, true, false, List, [], length, get_or, Some}
 use Rattle.records.specs.Tree.{Block}
 use Rattle.code.specs.declared.ops.Instr.{Instr}
 use Rattle.code.specs.declared.ops.Row.{Row}
-use Rattle.code.specs.declared.talk.Handler.{Handler}
 use Rattle.code.specs.declared.talk.Question.{Question}
 use Rattle.code.specs.declared.talk.Purpose.{Purpose}
 use Rattle.code.specs.declared.talk.End.TheVariants.{Value as Gives, Fault as Faults}
-use Rattle.meaning.specs.Machine.{Locals, Mach, no_row}
+use Rattle.meaning.specs.Machine.{Mach, no_row}
 use Rattle.meaning.specs.Calls.{State, State.ready, State.waits, State.ended, State.halted, instr_at, empty}
-use Rattle.meaning.specs.Reading.{Bytes, Scope, seek, Event, World, Around}
+use Rattle.meaning.specs.Reading.{Event}
 use Rattle.meaning.specs.Run.{Out, Out.value, Out.broke, Out.continued, Out.returned, Out.fault, Out.waits as idles, Out.spent, run_script}
-use Rattle.meaning.specs.Fed.{Tables, name_at, sign_at, number_of, in_words, find_slot, Conf, conf, Comes, Goes}
+use Rattle.meaning.specs.Fed.{Tables, name_at, sign_at, number_of, in_words, Conf, conf, Comes, Goes}
 use Rattle.meaning.specs.Writer.{Writer, Lawful, Holds}
 use Rattle.meaning.specs.Agreement.{Heights, heights_of, armed, Alike}
 use Rattle.meaning.proofs.Place.{Layout, CodeScript, deep_list}

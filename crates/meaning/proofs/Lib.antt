@@ -33,3 +33,4 @@ pub mod Rounds
 pub mod Going
 pub mod Trying
 pub mod Bridge
+pub mod Tabled

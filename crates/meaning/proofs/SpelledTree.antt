@@ -1,11 +1,11 @@
 -- The tree that is read from records: its names are spelled by their labels, and it nests no `for` and `try` deeper
 -- than its statements nest.
-use Rattle.std.proofs.Common.{◌≡◌, ℕ, zero, suc, ◌+◌, ◌≤◌, max, Bool, true, false, cond, eqb, ltb, Some, None, Option, refl, arith}
-use Rattle.records.specs.Tree.{Records, Name, Exp, Oper, Head, Head.noop, Head.var, Head.expr, Head.call, Head.assign, Head.other, Head.block, Head.try, Head.for, Head.if, Head.while, Head.do_loop, Head.break, Head.continue, Head.return, Head.throw, Tree, Tree.node, Forest, Forest.nil, Forest.more, Stmt, Block, name_of, exp_of, oper_of, if_any, node_at, head_of, flagged}
+use Rattle.std.proofs.Common.{ℕ, zero, suc, ◌+◌, ◌≤◌, Bool, true, false, cond, eqb, ltb, Some, None, refl, arith}
+use Rattle.records.specs.Tree.{Records, Head, Head.noop, Head.var, Head.expr, Head.call, Head.assign, Head.other, Head.block, Head.try, Head.for, Head.if, Head.while, Head.do_loop, Head.break, Head.continue, Head.return, Head.throw, Tree.node, Forest.nil, Forest.more, Stmt, Block, name_of, oper_of, if_any, node_at, head_of, flagged}
 use Rattle.records.specs.Preorder.{grown, forest_from}
 use Rattle.records.specs.Accepts.{statements, tree_of, height, height_s}
 use Rattle.meaning.proofs.Place.{deep, deep_list}
-use Rattle.meaning.proofs.Lowered.{SpelledAny, SpelledOper, SpelledHead, SpelledS, Spelled}
+use Rattle.meaning.proofs.Lowered.{SpelledAny, SpelledOper, SpelledHead, Spelled}
 
 -- What holds both ways holds of a choice.
 both : {A : Type 0} (P : A → Type 0) (b : Bool) (x y : A) → P x → P y → P (cond b x y)

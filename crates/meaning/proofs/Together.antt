@@ -1,10 +1,8 @@
 -- The parts put together: accepted lowering stands, setting moves it, the fed player follows the tree, and so after every
 -- list of calls both agree.
-use Rattle.std.proofs.Common.{◌≡◌, ℕ, ◌≤◌, length, arith}
-use Rattle.records.specs.Tree.{Records}
+use Rattle.std.proofs.Common.{length, arith}
 use Rattle.records.specs.Accepts.{tree_of}
 use Rattle.records.proofs.Accepted.{one-tree}
-use Rattle.meaning.specs.LowerState.{Low}
 use Rattle.meaning.specs.Compiled.{tables}
 use Rattle.meaning.specs.SetCode.{set_code}
 use Rattle.meaning.specs.Whole.{WholeAgreement}

@@ -1,6 +1,6 @@
 -- The agreement: after every list of calls the player is where the tree's run is, fed the same answers and puts.
-use Rattle.std.specs.Prelude.{◌≡◌, ℕ, zero, suc, ◌+◌, ◌<◌, ◌≤◌, Bool, true, false, cond, List, [], ◌∷◌, ◌++◌, reverse, length, Some, None, Option, ◌≢◌}
-use Rattle.records.specs.Tree.{Records, Block}
+use Rattle.std.specs.Prelude.{◌≡◌, ℕ, suc, ◌<◌, Bool, true, false, cond, List, [], ◌∷◌, ◌++◌, reverse, length, None, ◌≢◌}
+use Rattle.records.specs.Tree.{Block}
 use Rattle.code.specs.declared.ops.Instr.{Instr}
 use Rattle.code.specs.declared.ops.Row.{Row}
 use Rattle.code.specs.declared.talk.Handler.{Handler}
@@ -9,8 +9,8 @@ use Rattle.code.specs.declared.talk.Answer.TheVariants.{Value, Done, Fault}
 use Rattle.code.specs.declared.talk.End.{End}
 use Rattle.code.specs.declared.talk.End.TheVariants.{Value as Gives, Fault as Faults}
 use Rattle.meaning.specs.Machine.{Locals, Mach}
-use Rattle.meaning.specs.Calls.{State, State.ready, State.waits, State.ended, State.halted, Call, Call.run, Call.answer, Call.look, Call.put, Reply, Reply.spent, Reply.asks, Reply.ends, Reply.sticks, Reply.taken, Reply.over, Reply.jammed, Reply.found, Reply.declined, Told, plays, loaded, after_calls, replies, instr_at}
-use Rattle.meaning.specs.Reading.{Ask, Event, Event.value as fed_value, Event.done as fed_done, Event.fault as fed_fault, Event.put as fed_put, Scope, seek, Around, World, Reading}
+use Rattle.meaning.specs.Calls.{State, State.ready, State.waits, State.ended, State.halted, Call, Call.run, Call.answer, Call.look, Call.put, Reply, Reply.spent, Reply.asks, Reply.ends, Reply.sticks, Reply.taken, Reply.over, Reply.jammed, Reply.found, Reply.declined, plays, loaded, after_calls, replies, instr_at}
+use Rattle.meaning.specs.Reading.{Ask, Event, Event.value as fed_value, Event.done as fed_done, Event.fault as fed_fault, Event.put as fed_put, Scope, seek}
 use Rattle.meaning.specs.Run.{Out, Out.value, Out.broke, Out.continued, Out.returned, Out.fault, Out.waits as idles, Out.spent as endless, run_script}
 use Rattle.meaning.specs.Fed.{Tables, name_at, in_words, find_slot}
 use Rattle.meaning.specs.SetCode.{expr_of, set_code, place_of}

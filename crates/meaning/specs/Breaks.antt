@@ -1,6 +1,6 @@
 -- Which loops have a break value.
 use Rattle.std.specs.Prelude.{Bool, true, false, ◌||◌, Some, None, Option}
-use Rattle.records.specs.Tree.{Head, Head.noop, Head.var, Head.expr, Head.call, Head.assign, Head.other, Head.block, Head.try, Head.for, Head.if, Head.while, Head.do_loop, Head.break, Head.continue, Head.return, Head.throw, Tree, Tree.node, Forest, Forest.nil, Forest.more, Stmt, Block}
+use Rattle.records.specs.Tree.{Head, Head.noop, Head.var, Head.expr, Head.call, Head.assign, Head.other, Head.block, Head.try, Head.for, Head.if, Head.while, Head.do_loop, Head.break, Head.continue, Head.return, Head.throw, Tree.node, Forest.nil, Forest.more, Stmt, Block}
 
 abbrev pub is_some : {A : Type 0} → Option A → Bool
 is_some None = false

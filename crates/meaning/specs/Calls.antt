@@ -1,6 +1,5 @@
 -- The player's calls: run, answer, look and put, from load to close, with every reply and every number.
-use Rattle.std.specs.Prelude.{ℕ, zero, suc, ◌+◌, Bool, true, false, cond, List, [], ◌∷◌, ◌++◌, length, Some, None, Option, nat_le, nat_lt, slice_index_or}
-use Rattle.records.specs.declared.types.Position.{Position}
+use Rattle.std.specs.Prelude.{ℕ, zero, suc, Bool, false, cond, List, [], ◌∷◌, Some, None, Option, nat_le, nat_lt, slice_index_or}
 use Rattle.records.specs.Tree.{nowhere}
 use Rattle.code.specs.declared.ops.Op.TheVariants.{Foreign}
 use Rattle.code.specs.declared.ops.Instr.{Instr}

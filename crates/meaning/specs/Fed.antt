@@ -1,6 +1,5 @@
 -- The player fed as the tree is: the same answers and puts, taken as soon as a question waits.
-use Rattle.std.specs.Prelude.{◌≡◌, ℕ, zero, suc, ◌+◌, Bool, true, false, cond, List, [], ◌∷◌, Some, None, Option, slice_index_or}
-use Rattle.records.specs.declared.types.Position.{Position}
+use Rattle.std.specs.Prelude.{◌≡◌, ℕ, zero, suc, Bool, true, false, cond, List, [], ◌∷◌, Some, None, Option, slice_index_or}
 use Rattle.code.specs.declared.ops.Instr.{Instr}
 use Rattle.code.specs.declared.ops.Row.{Row}
 use Rattle.code.specs.declared.talk.Slot.{Slot}

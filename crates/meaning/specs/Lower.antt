@@ -1,9 +1,8 @@
 -- The rules of lowering: one definition for each thing that the compiler does, in the order in which it does it.
-use Rattle.std.specs.Prelude.{◌≡◌, ℕ, zero, suc, pred, ◌+◌, ◌-◌, min, max, Bool, true, false, cond, not, ◌&&◌, ◌||◌, List, [], ◌∷◌, ◌++◌, length, Some, None, Option, ◌==◌, nat_le, nat_lt}
+use Rattle.std.specs.Prelude.{ℕ, zero, suc, pred, ◌-◌, min, Bool, true, false, cond, not, ◌&&◌, ◌||◌, List, [], ◌∷◌, length, Some, None, Option, ◌==◌, nat_le, nat_lt}
 use Rattle.records.specs.declared.types.Position.{Position}
-use Rattle.records.specs.declared.refusals.Refusal.{Refusal}
 use Rattle.records.specs.declared.refusals.Refusal.TheVariants.{BadReuse, OutsideLoop, EvalCall}
-use Rattle.records.specs.Tree.{Records, Name, Exp, Oper, Head, Head.noop, Head.var, Head.expr, Head.call, Head.assign, Head.other, Head.block, Head.try, Head.for, Head.if, Head.while, Head.do_loop, Head.break, Head.continue, Head.return, Head.throw, Tree, Tree.node, Forest, Forest.nil, Forest.more, Stmt, Block, name_of}
+use Rattle.records.specs.Tree.{Records, Name, Exp, Oper, Head, Head.noop, Head.var, Head.expr, Head.call, Head.assign, Head.other, Head.block, Head.try, Head.for, Head.if, Head.while, Head.do_loop, Head.break, Head.continue, Head.return, Head.throw, Tree.node, Forest.nil, Forest.more, Stmt, Block, name_of}
 use Rattle.code.specs.declared.ops.Op.{Op}
 use Rattle.code.specs.declared.ops.Op.TheVariants.{Unit as UnitOp, StoreLocal, AssignNamed, AssignLocal, DeclareLocal, Pop, Jump, JumpIfFalse, Rotate, UnwindTo, Tick, Checkpoint, EvalAst, PushHandler, PopHandler, IterInit, IterNext, IterDrop, StoreShared, Throw, Return}
 use Rattle.code.specs.declared.shapes.Loop.{Loop}
@@ -12,7 +11,7 @@ use Rattle.code.specs.declared.shapes.Lowered.TheVariants.{Value, Empty}
 use Rattle.meaning.specs.Reading.{same_bytes}
 use Rattle.meaning.specs.Run.{endless}
 use Rattle.meaning.specs.Breaks.{has_break_value}
-use Rattle.meaning.specs.LowerState.{Low, Pile, Level, Out, Out.ok, Out.no, M, ret, fail, bind, emit_at, emit, here, patch_to, patch_here, add_row, enter_name, enter_oper, depth, may_declare, declare, drop_slots, resolve, enter_block, leave_block, the_block, set_iters, set_handlers, innermost, enter_loop, leave_loop, add_break, land}
+use Rattle.meaning.specs.LowerState.{Low, Pile, Level, Out, M, ret, fail, bind, emit_at, emit, here, patch_here, add_row, enter_name, enter_oper, depth, may_declare, declare, drop_slots, resolve, enter_block, leave_block, the_block, set_iters, set_handlers, innermost, enter_loop, leave_loop, add_break, land}
 
 -- A target that is not known yet.
 abbrev pub unset : ℕ

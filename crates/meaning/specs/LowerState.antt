@@ -1,17 +1,17 @@
 -- What lowering keeps while it works, and each thing that it does to it: a result with the state after it, or the
 -- first refusal that is met.
-use Rattle.std.specs.Prelude.{ℕ, zero, suc, ◌+◌, ◌-◌, min, max, Bool, true, false, cond, ◌&&◌, List, [], ◌∷◌, ◌++◌, length, take, drop, Some, None, Option, ◌==◌, nat_lt, slice_index_or, slice_set}
+use Rattle.std.specs.Prelude.{ℕ, suc, ◌-◌, max, Bool, false, cond, ◌&&◌, List, [], ◌∷◌, ◌++◌, length, take, drop, Some, None, Option, ◌==◌, nat_lt, slice_index_or, slice_set}
 use Rattle.records.specs.declared.types.Position.{Position}
 use Rattle.records.specs.declared.refusals.Refusal.{Refusal}
 use Rattle.records.specs.declared.refusals.Refusal.TheVariants.{TooDeep, SlotsFull, NoRoom}
-use Rattle.records.specs.Tree.{Records, Oper, name_of, nowhere}
+use Rattle.records.specs.Tree.{Records, name_of, nowhere}
 use Rattle.code.specs.declared.ops.Op.{Op}
 use Rattle.code.specs.declared.ops.Op.TheVariants.{Unit as UnitOp, Bool as BoolOp, StoreLocal, LoadNamed, AssignNamed, AssignLocal, DeclareLocal, Pop, Jump, JumpIfTrue, JumpIfFalse, Rotate, UnwindTo, Tick, Checkpoint, EvalAst, PushHandler, PopHandler, IterInit, IterNext, IterDrop, StoreShared, Throw, Return, EvalExpr, Foreign}
 use Rattle.code.specs.declared.ops.Instr.{Instr}
 use Rattle.code.specs.declared.ops.Row.{Row}
 use Rattle.code.specs.declared.ops.AssignOp.{AssignOp}
 use Rattle.code.specs.declared.shapes.Loop.{Loop}
-use Rattle.meaning.specs.Reading.{Bytes, same_bytes}
+use Rattle.meaning.specs.Reading.{same_bytes}
 
 -- ## The state
 

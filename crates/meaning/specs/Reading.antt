@@ -1,7 +1,7 @@
 -- What a script asks, what it is fed, and how expressions run in the tree.
-use Rattle.std.specs.Prelude.{◌≡◌, ℕ, Bool, true, false, cond, ◌&&◌, List, [], ◌∷◌, Some, None, Option, ◌==◌}
+use Rattle.std.specs.Prelude.{ℕ, Bool, true, false, cond, ◌&&◌, List, [], ◌∷◌, Some, None, Option, ◌==◌}
 use Rattle.records.specs.declared.types.Position.{Position}
-use Rattle.records.specs.Tree.{Name, Oper}
+use Rattle.records.specs.Tree.{Oper}
 
 -- ## Names and operators
 

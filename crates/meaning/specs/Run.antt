@@ -1,9 +1,9 @@
 -- The tree's run: what a script does, told by its tree alone.
-use Rattle.std.specs.Prelude.{◌≡◌, ℕ, zero, suc, Bool, true, false, cond, ◌||◌, List, [], ◌∷◌, length, Some, None, Option, ◌==◌}
+use Rattle.std.specs.Prelude.{ℕ, zero, suc, Bool, true, false, cond, ◌||◌, List, [], ◌∷◌, length, Some, None, Option, ◌==◌}
 use Rattle.records.specs.declared.types.Position.{Position}
-use Rattle.records.specs.Tree.{Name, Exp, Oper, Head, Head.noop, Head.var, Head.expr, Head.call, Head.assign, Head.other, Head.block, Head.try, Head.for, Head.if, Head.while, Head.do_loop, Head.break, Head.continue, Head.return, Head.throw, Tree, Tree.node, Forest, Forest.nil, Forest.more, Stmt, Block}
+use Rattle.records.specs.Tree.{Name, Exp, Oper, Head, Head.noop, Head.var, Head.expr, Head.call, Head.assign, Head.other, Head.block, Head.try, Head.for, Head.if, Head.while, Head.do_loop, Head.break, Head.continue, Head.return, Head.throw, Tree.node, Forest.nil, Forest.more, Stmt, Block}
 use Rattle.meaning.specs.Throws.{keep}
-use Rattle.meaning.specs.Reading.{Bytes, Sign, sign_of, Ask, Ask.statement, Ask.combine, Ask.assign as assign_to, Ask.iterate, Ask.next, Event, Cell, Scope, no_scope, seek, declares, sets_inner, World, St as StOf, st, Around, Heard as HeardOf, Heard.value as heard, Heard.done as over, Heard.fault as fails, Heard.waits as idle, asks as asks_of, Truth, Truth.yes, Truth.no, Truth.neither, truth, Reading, reading as reading_of, Got as GotOf, Got.got, Got.bad, Got.dry, gotten}
+use Rattle.meaning.specs.Reading.{Bytes, Sign, sign_of, Ask, Ask.statement, Ask.combine, Ask.assign as assign_to, Ask.iterate, Ask.next, Event, Cell, Scope, no_scope, seek, declares, sets_inner, St as StOf, st, Around, Heard as HeardOf, Heard.value as heard, Heard.done as over, Heard.fault as fails, Heard.waits as idle, asks as asks_of, Truth, Truth.yes, Truth.no, Truth.neither, truth, Reading, reading as reading_of, Got as GotOf, Got.got, Got.bad, Got.dry, gotten}
 
 -- The tree's variables are scopes, the innermost first.
 abbrev pub St : Type 0

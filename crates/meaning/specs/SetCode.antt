@@ -1,5 +1,5 @@
 -- Setting: every expression's segment is put where it belongs, and every target is moved.
-use Rattle.std.specs.Prelude.{ℕ, zero, suc, ◌+◌, ◌-◌, Bool, true, false, cond, not, ◌&&◌, ◌||◌, List, [], ◌∷◌, ◌++◌, length, Some, None, Option, ◌==◌, nat_le, nat_lt, slice_index_or}
+use Rattle.std.specs.Prelude.{ℕ, zero, suc, ◌+◌, ◌-◌, Bool, true, cond, ◌&&◌, ◌||◌, List, [], ◌∷◌, ◌++◌, length, Some, None, Option, ◌==◌, nat_le, nat_lt, slice_index_or}
 use Rattle.records.specs.Tree.{Records}
 use Rattle.records.specs.Checks.{every, label_law, expr_sound}
 use Rattle.code.specs.declared.ops.Op.{Op}

@@ -1,6 +1,6 @@
 -- Worked scripts: each with the operations, places and rows, or the refusal, that belongs to it. Positions are all
 -- distinct, so that a wrong one would show.
-use Rattle.std.specs.Prelude.{◌≡◌, ℕ, Bool, true, false, List, [], ◌∷◌, Some, None, Option}
+use Rattle.std.specs.Prelude.{◌≡◌, ℕ, true, false, List, [], ◌∷◌, None}
 use Rattle.std.proofs.Math.Option.{none}
 use Rattle.records.specs.declared.types.Position.{Position}
 use Rattle.records.specs.declared.types.Label.{Label}
@@ -14,7 +14,7 @@ use Rattle.code.specs.declared.ops.Op.{Op}
 use Rattle.code.specs.declared.ops.Op.TheVariants.{Unit as UnitOp, StoreLocal, DeclareLocal, Jump, JumpIfFalse, Rotate, UnwindTo, Tick, EvalAst, PushHandler, PopHandler, IterInit, IterNext, IterDrop, StoreShared, Return}
 use Rattle.code.specs.declared.ops.Instr.{Instr}
 use Rattle.code.specs.declared.ops.Row.{Row}
-use Rattle.meaning.specs.LowerState.{Low, Out, Out.ok, Out.no}
+use Rattle.meaning.specs.LowerState.{Out, Out.ok, Out.no}
 use Rattle.meaning.specs.Lower.{Rooms, lowering, max_stack}
 use Rattle.meaning.specs.Compiled.{spelled}
 

@@ -1,6 +1,6 @@
 -- A throw: the handlers in catch above the newest armed one are discarded, its heights are restored, it is set in
 -- catch, its name is declared, and the player goes to its catch block. With none the script ends.
-use Rattle.std.specs.Prelude.{ℕ, ◌-◌, Bool, true, false, cond, List, [], ◌∷◌, ◌++◌, length, drop, Some, None, Option, nat_le, nat_lt}
+use Rattle.std.specs.Prelude.{ℕ, ◌-◌, Bool, false, cond, List, [], ◌∷◌, length, drop, Some, None, Option, nat_le, nat_lt}
 use Rattle.records.specs.declared.types.Position.{Position}
 use Rattle.code.specs.declared.talk.Handler.{Handler}
 use Rattle.meaning.specs.Machine.{Mach, Effect, Effect.goto, Effect.fault, Effect.stuck, add, cut, with_handlers, with_slots}

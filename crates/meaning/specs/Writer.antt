@@ -1,7 +1,5 @@
 -- Expression writers: what an expression means, and the segment of operations that stands for it.
-use Rattle.std.specs.Prelude.{◌≡◌, ℕ, zero, suc, ◌+◌, ◌<◌, ◌≤◌, Bool, true, false, cond, ◌&&◌, List, [], ◌∷◌, ◌++◌, length, Some, None, Option, nat_le, nat_lt}
-use Rattle.records.specs.declared.types.Position.{Position}
-use Rattle.records.specs.Tree.{nowhere}
+use Rattle.std.specs.Prelude.{◌≡◌, ℕ, suc, ◌+◌, ◌<◌, ◌≤◌, Bool, true, false, ◌&&◌, List, [], ◌∷◌, ◌++◌, length, nat_le, nat_lt}
 use Rattle.code.specs.declared.ops.Op.{Op}
 use Rattle.code.specs.declared.ops.Op.TheVariants.{Unit as UnitOp, Bool as BoolOp, StoreLocal, LoadNamed, AssignNamed, AssignLocal, DeclareLocal, Pop, Jump, JumpIfTrue, JumpIfFalse, Rotate, UnwindTo, Tick, Checkpoint, EvalAst, PushHandler, PopHandler, IterInit, IterNext, IterDrop, StoreShared, Throw, Return, EvalExpr, Foreign}
 use Rattle.code.specs.declared.ops.Instr.{Instr}
@@ -11,7 +9,7 @@ use Rattle.code.specs.declared.talk.Purpose.{Purpose}
 use Rattle.meaning.specs.Machine.{Locals, Mach}
 use Rattle.meaning.specs.Throws.{catches}
 use Rattle.meaning.specs.Calls.{State, State.ready, State.waits, State.ended, State.halted, instr_at, landed}
-use Rattle.meaning.specs.Reading.{Ask, Around, World, St, st, Got, Got.got, Got.bad, Got.dry, Reading, reading}
+use Rattle.meaning.specs.Reading.{Around, World, st, Got, Got.got, Got.bad, Got.dry, Reading, reading}
 use Rattle.meaning.specs.Fed.{Tables, in_words, find_slot, poke_slot, Conf, conf, Comes}
 
 -- For one script's expressions and name table: the known expressions, each with its reading and its segment, whose

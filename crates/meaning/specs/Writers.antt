@@ -1,6 +1,5 @@
 -- The two writers of the base: Whole asks every expression whole, Written follows the forms.
 use Rattle.std.specs.Prelude.{ℕ, zero, suc, ◌+◌, Bool, true, false, cond, ◌&&◌, List, [], ◌∷◌, ◌++◌, length, Some, None, Option, ◌==◌, nat_le, nat_lt}
-use Rattle.records.specs.declared.types.Position.{Position}
 use Rattle.records.specs.Tree.{Records, expr_at, name_of, nowhere}
 use Rattle.code.specs.declared.ops.Op.{Op}
 use Rattle.code.specs.declared.ops.Op.TheVariants.{Unit as UnitOp, Bool as BoolOp, LoadNamed, Jump, JumpIfTrue, JumpIfFalse, EvalExpr}

@@ -1,4 +1,5 @@
 // What a script means, and what is proved of it: each function's contract is a theorem about the definitions in specs/.
+#![tactic(auto)]
 
 ghost use Rattle.meaning.specs.Starred.{Reproduced, worked};
 ghost use Rattle.meaning.specs.Whole.{WholeAgreement};

@@ -1,3 +1,5 @@
+#![tactic(auto)]
+
 mod kinds;
 mod machine;
 

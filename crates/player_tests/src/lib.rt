@@ -1,4 +1,5 @@
 // The player's calls, tried: every number at its edge and in its order, throws, and the 64 of each table.
+#![tactic(auto)]
 
 use code::{Answer, End, Instr, Op, Question, Row, Slot};
 use player::{Answered, Call, Outcome, Player, Reply};

@@ -1,12 +1,11 @@
 -- What the checks' definition means: acceptance is having one tree.
-use Rattle.std.proofs.Common.{◌≡◌, ℕ, ◌<◌, ◌≤◌, max, Bool, true, false, cond, length, Ok, Err, Result, sym, refl, ap, ◌∙◌, subst, arith}
+use Rattle.std.proofs.Common.{◌≡◌, ℕ, Bool, true, false, cond, length, Ok, Err, Result, sym, refl, ◌∙◌, subst, arith}
 use mathlib.Core.Option.{Option, none, some}
 use Rattle.records.specs.declared.refusals.Refusal.{Refusal}
-use Rattle.records.specs.Numbers.{number_of}
-use Rattle.records.specs.Tree.{Records, Forest, Block}
-use Rattle.records.specs.Preorder.{Table, ForestAt, forest_from}
-use Rattle.records.specs.Checks.{answered, too_large, label_law, operator_law, size_fault, label_fault, expr_fault, operator_fault, statement_fault, checked}
-use Rattle.records.specs.Accepts.{Term, expressions, statements, ScriptTree, Preorder, script_of, OneTree, ByTree, Sound, SoundIfOk}
+use Rattle.records.specs.Tree.{Records}
+use Rattle.records.specs.Preorder.{ForestAt, forest_from}
+use Rattle.records.specs.Checks.{answered, too_large, label_law, operator_law, size_fault, label_fault, expr_fault, operator_fault, checked}
+use Rattle.records.specs.Accepts.{expressions, statements, ScriptTree, Preorder, script_of, OneTree, ByTree, Sound, SoundIfOk}
 use Rattle.records.proofs.Bools.{none-some, first-none, none_first, each_all, all-each}
 use Rattle.records.proofs.Forests.{is-forest, is-forest-max, placed}
 use Rattle.records.proofs.Statements.{block-stands, block-passes}

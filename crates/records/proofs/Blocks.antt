@@ -1,5 +1,5 @@
 -- The laws by which code that goes through ranges of nodes is proved against the tree that is read from them.
-use Rattle.std.proofs.Common.{◌≡◌, ℕ, ◌+◌, ◌<◌, ◌≤◌, length, Some, None, Option, sym, refl, ap, ◌∙◌, subst, inl, inr, arith, ne_eqb}
+use Rattle.std.proofs.Common.{◌≡◌, ℕ, ◌+◌, ◌<◌, ◌≤◌, length, Some, None, Option, sym, refl, ap, ◌∙◌, inl, inr, arith, ne_eqb}
 use Rattle.std.proofs.lemmas.Bool.{cases_eq}
 use Rattle.records.specs.declared.kinds.Kind.{Kind}
 use Rattle.records.specs.Tree.{Records, Tree.node, Forest.nil, Forest.more, node_at, head_of}

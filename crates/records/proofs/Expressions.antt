@@ -1,14 +1,14 @@
 -- Expressions: their checks pass exactly where their trees stand.
-use Rattle.std.proofs.Common.{◌≡◌, ℕ, zero, suc, ◌+◌, ◌-◌, ◌<◌, ◌≤◌, max, Bool, true, false, cond, not, ◌&&◌, ◌||◌, eqb, ltb, leb, ◌⊎◌, length, Some, None, Option as Maybe, sym, refl, ap, ◌∙◌, subst, inl, inr, arith, ltb-true, lt-ltb, eq-eqb, ne_eqb, eqb-true, le-leb, leb-true}
-use mathlib.Core.Option.{Option, none, some}
+use Rattle.std.proofs.Common.{◌≡◌, ℕ, zero, suc, ◌+◌, ◌-◌, ◌<◌, ◌≤◌, max, Bool, true, false, not, ◌&&◌, ◌||◌, eqb, ltb, leb, ◌⊎◌, length, Some, None, Option as Maybe, sym, refl, subst, inl, inr, arith, ltb-true, lt-ltb, eq-eqb, ne_eqb, eqb-true, le-leb, leb-true}
+use mathlib.Core.Option.{none}
 use borrow.Author.Tests.{both_ways}
-use Rattle.std.proofs.lemmas.Bool.{cases_eq, cases_Bool}
+use Rattle.std.proofs.lemmas.Bool.{cases_eq}
 use Rattle.records.specs.declared.kinds.Form.{Form}
 use Rattle.records.specs.declared.kinds.Form.TheVariants.{Unit as UnitForm, True, Opaque, False, Name, AllOf, AnyOf}
 use Rattle.records.specs.declared.types.Expr.{Expr}
 use Rattle.records.specs.Tree.{Records, Tree, Forest, Tree.node, Forest.nil, Forest.more, expr_at}
 use Rattle.records.specs.Meanings.{form_of, known, is_list}
-use Rattle.records.specs.Preorder.{Table, TreeAt, ForestAt}
+use Rattle.records.specs.Preorder.{TreeAt, ForestAt}
 use Rattle.records.specs.Checks.{names, tiles, form_law, expr_law, expr_sound, expr_fault}
 use Rattle.records.specs.Accepts.{Term, term_of, expressions}
 use Rattle.records.proofs.Bools.{and_both, both-and, or-either, each_all, all-each}

@@ -1,6 +1,6 @@
 -- Trees that stand in a table of records: their places, each of their records, and that there is but one.
-use Rattle.std.proofs.Common.{◌≡◌, ℕ, zero, suc, ◌+◌, ◌-◌, ◌<◌, ◌≤◌, max, Bool, true, false, cond, ltb, ◌⊎◌, sym, refl, ap, ◌∙◌, subst, inl, inr, arith, ltb-true, le-ltb, lt-ltb}
-use Rattle.std.proofs.lemmas.Bool.{cases_lt, cases_order}
+use Rattle.std.proofs.Common.{◌≡◌, ℕ, zero, suc, ◌+◌, ◌<◌, ◌≤◌, max, Bool, true, false, cond, ltb, sym, refl, ◌∙◌, subst, inl, inr, arith, ltb-true, le-ltb, lt-ltb}
+use Rattle.std.proofs.lemmas.Bool.{cases_lt}
 use Rattle.records.specs.Tree.{Tree, Forest, Tree.node, Forest.nil, Forest.more}
 use Rattle.records.specs.Preorder.{Table, TreeAt, ForestAt, grown, forest_from, tree_from, Placed, AllPlaced}
 

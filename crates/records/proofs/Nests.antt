@@ -1,8 +1,8 @@
 -- The table of open statements, read as a list.
-use Rattle.std.proofs.Common.{◌≡◌, ℕ, zero, suc, ◌+◌, ◌-◌, ◌<◌, ◌≤◌, Bool, true, false, cond, eqb, ◌≢◌, List, [], ◌∷◌, length, get_or, set, sym, refl, ap, ◌∙◌, subst, arith, get_or-set_other, get_or-set_same, eq-eqb, ne_eqb}
+use Rattle.std.proofs.Common.{◌≡◌, ℕ, zero, suc, ◌+◌, ◌-◌, ◌<◌, ◌≤◌, ◌≢◌, List, [], ◌∷◌, length, get_or, set, sym, refl, ap, ◌∙◌, subst, arith, get_or-set_other, get_or-set_same, eq-eqb, ne_eqb}
 use Rattle.records.specs.declared.nest.Open.{Open}
 use Rattle.records.specs.Nesting.{no_open, newest_first}
-use Rattle.records.specs.Checks.{closed, limit_of}
+use Rattle.records.specs.Checks.{closed}
 
 pub none_open : (xs : List Open) → newest_first xs 0 ≡ []
 unfolding newest_first

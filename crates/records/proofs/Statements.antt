@@ -1,17 +1,17 @@
 -- Statements: going through them accepts exactly where a block's tree stands.
-use Rattle.std.proofs.Common.{◌≡◌, ℕ, zero, suc, ◌+◌, ◌-◌, ◌<◌, ◌≤◌, max, Bool, true, false, cond, not, ◌&&◌, ◌||◌, eqb, ltb, leb, ◌⊎◌, List, [], ◌∷◌, length, Some, None, Option as Maybe, sym, refl, ap, ◌∙◌, subst, inl, inr, arith, ltb-true, le-ltb, lt-ltb, eq-eqb, ne_eqb, eqb-true, le-leb, leb-false, leb-true}
+use Rattle.std.proofs.Common.{◌≡◌, ℕ, zero, suc, ◌+◌, ◌-◌, ◌<◌, ◌≤◌, max, Bool, true, false, cond, not, ◌&&◌, ◌||◌, eqb, ltb, leb, List, [], ◌∷◌, length, Some, None, Option as Maybe, sym, refl, ap, ◌∙◌, subst, inl, inr, arith, ltb-true, lt-ltb, eq-eqb, ne_eqb, eqb-true, le-leb, leb-false, leb-true}
 use mathlib.Core.Option.{Option, none, some}
-use borrow.Author.Tests.{lt-leb, eqb-false, both_ways, not-true}
+use borrow.Author.Tests.{lt-leb, both_ways}
 use Rattle.std.proofs.lemmas.Bool.{cases_eq, cases_Bool}
 use Rattle.records.specs.declared.kinds.Kind.{Kind}
 use Rattle.records.specs.declared.nest.Open.{Open}
-use Rattle.records.specs.Tree.{Records, Tree, Forest, Tree.node, Forest.nil, Forest.more, Stmt, Block, node_at, head_of, flagged}
+use Rattle.records.specs.Tree.{Records, Tree.node, Forest.nil, Forest.more, Stmt, Block, node_at, head_of, flagged}
 use Rattle.records.specs.Meanings.{kind_of, known, has_body, has_branch}
-use Rattle.records.specs.Preorder.{Table, TreeAt, ForestAt}
+use Rattle.records.specs.Preorder.{TreeAt, ForestAt}
 use Rattle.records.specs.Checks.{first, field_law, shape_law, range_law, left_out, compound, node_law, kind_fault, node_fault, closed, limit_of, opened, walk, statement_fault}
 use Rattle.records.specs.Accepts.{statements, has_blocks, height_s, height}
 use Rattle.records.proofs.Bools.{and_both, both-and, none-some, first-none, none_first, not_is, is-not}
-use Rattle.records.proofs.Forests.{tree-lt, forest-le, tree-end}
+use Rattle.records.proofs.Forests.{tree-lt, forest-le}
 
 -- ## One statement
 

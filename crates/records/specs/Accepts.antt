@@ -3,7 +3,7 @@ use Rattle.std.specs.Prelude.{◌≡◌, ℕ, suc, ◌<◌, ◌≤◌, max, Bool
 use Rattle.std.proofs.Math.Option.{Option, none, some}
 use Rattle.records.specs.declared.types.Position.{Position}
 use Rattle.records.specs.declared.refusals.Refusal.{Refusal}
-use Rattle.records.specs.Tree.{Records, Name, Head, Head.noop, Head.var, Head.expr, Head.call, Head.assign, Head.other, Head.block, Head.try, Head.for, Head.if, Head.while, Head.do_loop, Head.break, Head.continue, Head.return, Head.throw, Tree, Forest, Tree.node, Forest.nil, Forest.more, Stmt, Block, expr_at, node_at, name_of, head_of}
+use Rattle.records.specs.Tree.{Records, Name, Head, Head.noop, Head.var, Head.expr, Head.call, Head.assign, Head.other, Head.block, Head.try, Head.for, Head.if, Head.while, Head.do_loop, Head.break, Head.continue, Head.return, Head.throw, Forest, Tree.node, Forest.nil, Forest.more, Stmt, Block, expr_at, node_at, name_of, head_of}
 use Rattle.records.specs.Preorder.{Table, ForestAt, AllPlaced, forest_from, tree_from}
 use Rattle.records.specs.Checks.{too_large, label_law, operator_law, expr_law, node_law}
 

@@ -1,9 +1,8 @@
 -- The tree that a script's records stand for.
-use Rattle.std.specs.Prelude.{◌≡◌, ℕ, zero, suc, ◌+◌, ◌<◌, ◌≤◌, max, Bool, true, false, cond, not, ◌&&◌, ◌||◌, List, [], ◌∷◌, length, take, drop, Some, None, Option, ◌==◌, bit_and, slice_index_or}
+use Rattle.std.specs.Prelude.{ℕ, Bool, cond, not, List, take, drop, Some, None, Option, ◌==◌, bit_and, slice_index_or}
 use Rattle.records.specs.declared.types.Position.{Position}
 use Rattle.records.specs.declared.types.Label.{Label}
 use Rattle.records.specs.declared.types.Expr.{Expr}
-use Rattle.records.specs.declared.types.Symbol.{Symbol}
 use Rattle.records.specs.declared.types.Operator.{Operator}
 use Rattle.records.specs.declared.types.Node.{Node}
 use Rattle.records.specs.declared.types.Script.{Script}

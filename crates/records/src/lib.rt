@@ -1,4 +1,5 @@
 // The records of a script, and the checks that every later call rests on.
+#![tactic(auto)]
 
 mod checks;
 mod kinds;

@@ -22,17 +22,17 @@ head_as R i Do = let n = node_at R i in do_loop (flagged 4 n.flags) (exp_of R n.
 head_as R i BreakLoop = let n = node_at R i in cond (flagged 8 n.flags) (break (if_any (exp_of R) n.expr)) continue
 head_as R i Return = let n = node_at R i in cond (flagged 8 n.flags) (throw (if_any (exp_of R) n.expr) n.at) (return (if_any (exp_of R) n.expr))
 
-pub head_as : (R : Records) (i : ℕ) (k : Kind) → kind_of (node_at R i).kind ≡ Some k → head_of R i ≡ head_as R i k
-head_as R i Noop q = rw (kind-number (node_at R i).kind Noop q) refl
-head_as R i Var q = rw (kind-number (node_at R i).kind Var q) refl
-head_as R i Expr q = rw (kind-number (node_at R i).kind Expr q) refl
-head_as R i FnCall q = rw (kind-number (node_at R i).kind FnCall q) refl
-head_as R i Assignment q = rw (kind-number (node_at R i).kind Assignment q) refl
-head_as R i Block q = rw (kind-number (node_at R i).kind Block q) refl
-head_as R i TryCatch q = rw (kind-number (node_at R i).kind TryCatch q) refl
-head_as R i For q = rw (kind-number (node_at R i).kind For q) refl
-head_as R i If q = rw (kind-number (node_at R i).kind If q) refl
-head_as R i While q = rw (kind-number (node_at R i).kind While q) refl
-head_as R i Do q = rw (kind-number (node_at R i).kind Do q) refl
-head_as R i BreakLoop q = rw (kind-number (node_at R i).kind BreakLoop q) refl
-head_as R i Return q = rw (kind-number (node_at R i).kind Return q) refl
+pub head_as_lem : (R : Records) (i : ℕ) (k : Kind) → kind_of (node_at R i).kind ≡ Some k → head_of R i ≡ head_as R i k
+head_as_lem R i Noop q = rw (kind-number (node_at R i).kind Noop q) refl
+head_as_lem R i Var q = rw (kind-number (node_at R i).kind Var q) refl
+head_as_lem R i Expr q = rw (kind-number (node_at R i).kind Expr q) refl
+head_as_lem R i FnCall q = rw (kind-number (node_at R i).kind FnCall q) refl
+head_as_lem R i Assignment q = rw (kind-number (node_at R i).kind Assignment q) refl
+head_as_lem R i Block q = rw (kind-number (node_at R i).kind Block q) refl
+head_as_lem R i TryCatch q = rw (kind-number (node_at R i).kind TryCatch q) refl
+head_as_lem R i For q = rw (kind-number (node_at R i).kind For q) refl
+head_as_lem R i If q = rw (kind-number (node_at R i).kind If q) refl
+head_as_lem R i While q = rw (kind-number (node_at R i).kind While q) refl
+head_as_lem R i Do q = rw (kind-number (node_at R i).kind Do q) refl
+head_as_lem R i BreakLoop q = rw (kind-number (node_at R i).kind BreakLoop q) refl
+head_as_lem R i Return q = rw (kind-number (node_at R i).kind Return q) refl

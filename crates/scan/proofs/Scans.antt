@@ -1,18 +1,17 @@
 -- The scan finds what the tree has.
-use Rattle.std.proofs.Common.{◌≡◌, ℕ, ◌+◌, ◌<◌, ◌≤◌, Bool, true, false, cond, not, ◌&&◌, ◌||◌, eqb, ltb, length, Some, None, Option, sym, refl, ap, ◌∙◌, subst, arith, eqb-true}
+use Rattle.std.proofs.Common.{◌≡◌, ℕ, ◌+◌, ◌<◌, ◌≤◌, Bool, true, false, cond, not, ◌&&◌, ◌||◌, eqb, Some, None, Option, sym, refl, ◌∙◌, subst, arith, eqb-true}
 use borrow.Author.Tests.{clash}
 use Rattle.records.specs.declared.kinds.Kind.{Kind}
 use Rattle.records.specs.declared.kinds.Kind.TheVariants.{Noop, Var, Expr, FnCall, Assignment, Block, TryCatch, For, If, While, Do, BreakLoop, Return}
-use Rattle.records.specs.declared.types.Node.{Node}
 use Rattle.records.specs.Meanings.{kind_of, known, has_body, has_branch}
-use Rattle.records.specs.Tree.{Records, Head, Tree, Tree.node, Forest, Forest.nil, Forest.more, Stmt, node_at, exp_of, flagged, head_of}
+use Rattle.records.specs.Tree.{Records, Head, Tree.node, Forest, Forest.nil, Forest.more, Stmt, node_at, flagged}
 use Rattle.records.specs.Checks.{node_law, field_law, shape_law, left_out}
 use Rattle.records.specs.Preorder.{TreeAt, ForestAt}
 use Rattle.records.specs.Accepts.{statements}
 use Rattle.records.proofs.Forests.{tree-lt, forest-le}
 use Rattle.meaning.specs.Breaks.{breaks_head, breaks_s, has_break_value}
 use Rattle.scan.specs.Scan.{is_loop, is_break, loop_node, valued_break}
-use Rattle.scan.proofs.Heads.{head_as, head_as}
+use Rattle.scan.proofs.Heads.{head_as, head_as_lem}
 
 -- Where the scan goes from a node.
 abbrev pub next : Records → ℕ → ℕ
@@ -147,7 +146,7 @@ module _ (R : Records) (to : ℕ) where
         let at-end : Finds R to (node_at R a).end r = subst (λ (n : ℕ). Finds R to n r) e q in
         let in-branch : Finds R to (node_at R a).mid (has_break_value C || r) = finds C (node_at R a).mid (node_at R a).end r p.3 (omega arith) at-end in
         let in_body : (x : Bool) → Finds R to (node_at R a).mid x → Finds R to (a + 1) (has_break_value B || x) = λ x f. finds B (a + 1) (node_at R a).mid x p.2 (omega arith) f in
-        subst (λ (g : Head). Finds R to a (breaks_head g (has_break_value B) (has_break_value C) || r)) (sym (p.0 ∙ head_as R a k.kind k.is))
+        subst (λ (g : Head). Finds R to a (breaks_head g (has_break_value B) (has_break_value C) || r)) (sym (p.0 ∙ head_as_lem R a k.kind k.is))
         (at-kind a (has_break_value B) (has_break_value C) r k.kind k.is k.shape lt at-end in-branch in_body)
 
     pub finds : (f : Forest Head) (a b : ℕ) (r : Bool) → ForestAt (statements R) f a b → b ≤ to → Finds R to b r → Finds R to a (has_break_value f || r)

@@ -1,4 +1,5 @@
 // Which loops have a break value.
+#![tactic(auto)]
 
 ghost use Rattle.std.specs.Prelude.{◌≡◌, ℕ, ◌≤◌, ◌||◌, length};
 ghost use Rattle.records.specs.Tree.{records};

@@ -1,7 +1,7 @@
 -- The checks' fault and setting's fault.
-use Rattle.std.proofs.Common.{◌≡◌, ℕ, ◌-◌, ◌<◌, ◌≤◌, Bool, true, false, cond, not, ◌&&◌, ◌||◌, ltb, leb, ◌⊎◌, List, length, Some, None, Option, sym, refl, ap, ◌∙◌, inl, inr, ltb-false, le-ltb, lt-ltb, le-leb}
+use Rattle.std.proofs.Common.{◌≡◌, ℕ, ◌-◌, ◌≤◌, Bool, true, false, cond, not, ◌&&◌, ◌||◌, ltb, leb, List, length, Some, Option, sym, refl, ap, ◌∙◌, inl, inr, ltb-false, le-ltb, lt-ltb, le-leb}
 use mathlib.Core.Option.{Option as Maybe, none, some}
-use borrow.Author.Tests.{lt-leb, both_ways}
+use borrow.Author.Tests.{lt-leb}
 use Rattle.std.proofs.lemmas.Bool.{cases_lt, or_parts}
 use Rattle.records.specs.Tree.{Records}
 use Rattle.records.specs.Checks.{first, every, label_law, expr_sound, label_fault, expr_fault}

@@ -1,17 +1,16 @@
 -- What stands for each operation, put one after the other; then the targets outside segments.
-use Rattle.std.proofs.Common.{◌≡◌, ℕ, zero, suc, ◌+◌, ◌-◌, ◌<◌, ◌≤◌, Bool, true, false, cond, ◌&&◌, ltb, leb, ◌≢◌, List, [], ◌∷◌, ◌++◌, length, get_or, take, drop, set, is_some, Some, None, Ok, Err, Option, Result, sym, refl, ap, ◌∙◌, subst, append_assoc, add-one, arith, length-append, take_at, below_more, le-ltb, lt-ltb, le-leb}
+use Rattle.std.proofs.Common.{◌≡◌, ℕ, suc, ◌+◌, ◌-◌, ◌<◌, ◌≤◌, Bool, true, false, cond, ◌≢◌, List, ◌∷◌, ◌++◌, length, get_or, take, drop, set, is_some, Some, None, Ok, Err, Option, Result, sym, refl, ap, ◌∙◌, subst, append_assoc, add-one, arith, length-append, take_at, below_more, le-ltb, lt-ltb, le-leb}
 use borrow.Author.Tests.{both_ways}
 use Rattle.std.proofs.lemmas.List.{get_or_default, at_drop_more, at_drop_all, length-take-le, set_split, get_or-set_same, get_or-set_other}
 use Rattle.records.specs.declared.refusals.Refusal.{Refusal}
 use Rattle.records.specs.declared.refusals.Refusal.TheVariants.{NoCodeRoom}
-use Rattle.records.specs.Numbers.{number_of}
 use Rattle.code.specs.declared.ops.Op.{Op}
 use Rattle.code.specs.declared.ops.Op.TheVariants.{Unit as UnitOp, Bool as BoolOp, StoreLocal, LoadNamed, AssignNamed, AssignLocal, DeclareLocal, Pop, Jump, JumpIfTrue, JumpIfFalse, Rotate, UnwindTo, Tick, Checkpoint, EvalAst, PushHandler, PopHandler, IterInit, IterNext, IterDrop, StoreShared, Throw, Return, EvalExpr, Foreign}
 use Rattle.code.specs.declared.ops.Instr.{Instr}
 use Rattle.code.specs.declared.ops.Row.{Row}
 use Rattle.meaning.specs.Calls.{instr_at, no_instr}
 use Rattle.meaning.specs.Writer.{Writer}
-use Rattle.meaning.specs.SetCode.{expr_of, move_op, width_of, width, place_of, piece_of, piece, set_from, write_fault, write_faults, or_next}
+use Rattle.meaning.specs.SetCode.{expr_of, move_op, width, place_of, piece, set_from, write_fault, write_faults, or_next}
 use Rattle.meaning.proofs.Setting.{place-suc}
 use Rattle.setting.specs.Set.{SegmentPut, PieceAs, PiecePut, move_at, moved_from, blank}
 

@@ -1,6 +1,6 @@
 -- Segments put into code, their targets moved on.
-use Rattle.std.proofs.Common.{◌≡◌, ℕ, suc, ◌+◌, ◌-◌, ◌<◌, ◌≤◌, Bool, true, false, cond, ◌&&◌, ltb, leb, List, [], ◌∷◌, ◌++◌, length, get_or, take, drop, set, Some, None, Ok, Err, Option, Result, sym, refl, ap, ◌∙◌, subst, append_assoc, append-nil, arith, length-append, length-drop, take_at, drop-set-lt, drop_at, lt-ltb, leb-false, leb-true}
-use borrow.Author.Tests.{lt-leb, both_ways}
+use Rattle.std.proofs.Common.{◌≡◌, ℕ, ◌+◌, ◌-◌, ◌<◌, ◌≤◌, Bool, true, false, cond, ltb, leb, List, [], ◌∷◌, ◌++◌, length, get_or, take, drop, set, Some, None, Ok, Err, Result, sym, refl, ap, ◌∙◌, append_assoc, append-nil, arith, length-drop, take_at, drop-set-lt, drop_at, lt-ltb, leb-false, leb-true}
+use borrow.Author.Tests.{both_ways}
 use borrow.Rule.Slice.PartMut.{put_mid, post_of, Post-is}
 use Rattle.std.proofs.lemmas.List.{take_more_set, take_rest, take_all, drop_all, drop_more, drop-drop, length-take-le}
 use Rattle.std.proofs.lemmas.Bool.{and_parts, and_from}
@@ -13,7 +13,6 @@ use Rattle.code.specs.declared.ops.Instr.{Instr}
 use Rattle.meaning.specs.Fed.{Tables}
 use Rattle.meaning.specs.Writer.{Writer, Lawful, Plain, all_plain, shift}
 use Rattle.meaning.specs.SetCode.{target_of, target_fine, targets_fine, shift_all, write_fault}
-use Rattle.meaning.proofs.Setting.{shift_all-length}
 use Rattle.writers.specs.Write.{replied, filled}
 use Rattle.setting.specs.Set.{SegmentPut, blank}
 

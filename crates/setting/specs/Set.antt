@@ -1,5 +1,5 @@
 -- What setting answers, and what it leaves in lent memory.
-use Rattle.std.specs.Prelude.{◌≡◌, ℕ, suc, ◌+◌, ◌-◌, ◌<◌, ◌≤◌, Bool, true, cond, List, [], ◌∷◌, ◌++◌, length, take, drop, set, replicate, Some, None, Ok, Err, Option, Result, nat_lt, slice_index, slice_set}
+use Rattle.std.specs.Prelude.{◌≡◌, ℕ, suc, ◌+◌, ◌-◌, ◌<◌, ◌≤◌, true, cond, List, [], ◌∷◌, ◌++◌, length, take, drop, replicate, Some, None, Ok, Err, Option, Result, nat_lt, slice_index, slice_set}
 use Rattle.records.specs.Tree.{Records}
 use Rattle.records.specs.Numbers.{number_of}
 use Rattle.records.specs.declared.refusals.Refusal.{Refusal}
@@ -8,7 +8,7 @@ use Rattle.code.specs.declared.ops.Instr.{Instr}
 use Rattle.code.specs.declared.ops.Row.{Row}
 use Rattle.meaning.specs.Writer.{Writer}
 use Rattle.meaning.specs.Writers.{plain}
-use Rattle.meaning.specs.SetCode.{expr_of, move_op, shift_all, width_of, width, piece_of, piece, place_of, set_from, set_code, write_fault, write_faults, set_fault}
+use Rattle.meaning.specs.SetCode.{expr_of, move_op, shift_all, width_of, piece_of, place_of, set_from, set_code, write_fault, write_faults, set_fault}
 
 -- ## The call
 

@@ -1,4 +1,5 @@
 // Setting: every expression's segment is put where it belongs, and every target is moved.
+#![tactic(auto)]
 
 mod call;
 mod checks;

@@ -1,4 +1,5 @@
 // Setting, tried by three writers.
+#![tactic(auto)]
 
 #[cfg(test)]
 mod tests;

@@ -1,4 +1,5 @@
 // Slot memory: does it suffice, the newest slot of a name, and blanking.
+#![tactic(auto)]
 
 ghost use Rattle.meaning.specs.Calls.{fits};
 ghost use Rattle.meaning.specs.Machine.{newest};

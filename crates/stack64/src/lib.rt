@@ -1,3 +1,5 @@
+#![tactic(auto)]
+
 mod stack;
 
 pub use stack::Stack64;

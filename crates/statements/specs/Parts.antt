@@ -1,5 +1,5 @@
 -- Parts of statements, and rules that were followed by code that touches more than one memory.
-use Rattle.std.specs.Prelude.{◌≡◌, ℕ, suc, pred, Bool, true, false, List, Some, None, Option, Result}
+use Rattle.std.specs.Prelude.{◌≡◌, ℕ, suc, pred, Bool, true, false, List, None, Option, Result}
 use Rattle.records.specs.declared.types.Position.{Position}
 use Rattle.records.specs.declared.refusals.Refusal.{Refusal}
 use Rattle.records.specs.Tree.{Records, Name}

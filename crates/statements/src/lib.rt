@@ -1,3 +1,5 @@
+#![tactic(auto)]
+
 mod jumps;
 mod leaves;
 mod loops;

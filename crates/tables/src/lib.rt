@@ -1,3 +1,5 @@
+#![tactic(auto)]
+
 mod distinct;
 mod same;
 mod stack;

@@ -1,14 +1,12 @@
 -- Readings and segments by the form of an expression.
-use Rattle.std.proofs.Common.{◌≡◌, ℕ, suc, ◌+◌, ◌≤◌, Bool, true, false, cond, not, eqb, ◌⊎◌, List, [], ◌∷◌, ◌++◌, Some, None, Option, sym, refl, ap, ◌∙◌, subst, inl, inr, arith, eqb-true}
+use Rattle.std.proofs.Common.{◌≡◌, ℕ, suc, ◌+◌, ◌≤◌, Bool, true, false, cond, eqb, [], ◌∷◌, ◌++◌, Some, None, Option, sym, refl, ap, ◌∙◌, subst, inl, inr, arith, eqb-true}
 use Rattle.std.proofs.lemmas.Bool.{cases_Bool}
 use Rattle.records.specs.declared.kinds.Form.{Form}
 use Rattle.records.specs.declared.kinds.Form.TheVariants.{Unit as UnitForm, True, Opaque, False, Name, AllOf, AnyOf}
-use Rattle.records.specs.Meanings.{form_of, is_list}
+use Rattle.records.specs.Meanings.{form_of}
 use Rattle.records.specs.Tree.{Records, expr_at, name_of}
-use Rattle.code.specs.declared.ops.Op.{Op}
 use Rattle.code.specs.declared.ops.Op.TheVariants.{Bool as BoolOp, Jump}
-use Rattle.code.specs.declared.ops.Instr.{Instr}
-use Rattle.meaning.specs.Reading.{Bytes, Reading, Reading.unit, Reading.yes, Reading.opaque, Reading.no, Reading.name, Reading.all, Reading.any, Items}
+use Rattle.meaning.specs.Reading.{Bytes, Reading, Reading.unit, Reading.yes, Reading.opaque, Reading.no, Reading.all, Reading.any, Items}
 use Rattle.meaning.specs.Fed.{Tables, number_of}
 use Rattle.meaning.specs.Writers.{plain, name_reading, form_reading, size, size_items, load, written, written_items}
 use Rattle.meaning.proofs.WritersPlay.{jump_on}

@@ -1,5 +1,5 @@
 -- The items of an expression, gone through one by one, and what they weigh.
-use Rattle.std.proofs.Common.{◌≡◌, ℕ, zero, suc, ◌+◌, ◌-◌, ◌<◌, ◌≤◌, Bool, true, false, cond, ◌⊎◌, length, Some, None, Option, sym, refl, ap, ◌∙◌, subst, ap₂, inl, inr, add-one, arith, le-ltb, lt-ltb}
+use Rattle.std.proofs.Common.{◌≡◌, ℕ, zero, suc, ◌+◌, ◌-◌, ◌<◌, ◌≤◌, true, false, length, Some, None, Option, sym, refl, ap, ◌∙◌, subst, ap₂, inl, inr, add-one, arith, le-ltb, lt-ltb}
 use mathlib.Core.Option.{none}
 use borrow.Author.Tests.{both_ways}
 use Rattle.records.specs.declared.kinds.Form.{Form}
@@ -8,11 +8,11 @@ use Rattle.records.specs.Meanings.{form_of, known, is_list}
 use Rattle.records.specs.Tree.{Records, expr_at}
 use Rattle.records.specs.Checks.{tiles, form_law, expr_sound, expr_fault}
 use Rattle.records.proofs.Bools.{each_all}
-use Rattle.records.proofs.Expressions.{form-end, Fine, sound-fine, Hop, hop}
-use Rattle.meaning.specs.Reading.{Reading, Items, Items.end, Items.item}
+use Rattle.records.proofs.Expressions.{form-end, Fine, sound-fine, hop}
+use Rattle.meaning.specs.Reading.{Items, Items.end, Items.item}
 use Rattle.meaning.specs.Fed.{Tables}
 use Rattle.meaning.specs.Writers.{form_reading, items_from, written_reading, size, size_items}
-use Rattle.writers.specs.Sizes.{weight_of, weight, weigh}
+use Rattle.writers.specs.Sizes.{weight, weigh}
 use Rattle.writers.specs.Leaves.{decides, items_in}
 use Rattle.writers.proofs.Forms.{size-form}
 

@@ -2,5 +2,4 @@ pub mod Spelled
 pub mod Forms
 pub mod Items
 pub mod Puts
-pub mod Tabled
 pub mod Replies

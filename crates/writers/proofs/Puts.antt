@@ -1,5 +1,5 @@
 -- Writing a segment operation by operation.
-use Rattle.std.proofs.Common.{◌≡◌, ℕ, suc, ◌+◌, ◌-◌, ◌<◌, ◌≤◌, Bool, true, false, cond, ◌⊎◌, List, [], ◌∷◌, ◌++◌, length, drop, set, Some, None, Option, sym, refl, ap, ◌∙◌, subst, inl, inr, add-one, arith}
+use Rattle.std.proofs.Common.{◌≡◌, ℕ, suc, ◌+◌, ◌-◌, ◌<◌, ◌≤◌, Bool, true, false, cond, ◌⊎◌, List, [], ◌∷◌, ◌++◌, length, drop, set, Some, None, sym, refl, ap, ◌∙◌, subst, inl, inr, add-one, arith}
 use mathlib.Core.Option.{none}
 use lib.Seq.{sets, sets-eq}
 use Rattle.std.proofs.lemmas.Bool.{cases_lt}
@@ -10,7 +10,7 @@ use Rattle.records.proofs.Tiles.{tiles-on}
 use Rattle.code.specs.declared.ops.Op.{Op}
 use Rattle.code.specs.declared.ops.Op.TheVariants.{JumpIfTrue, JumpIfFalse}
 use Rattle.code.specs.declared.ops.Instr.{Instr}
-use Rattle.meaning.specs.Reading.{Reading, Items, Items.end, Items.item}
+use Rattle.meaning.specs.Reading.{Reading, Items, Items.item}
 use Rattle.meaning.specs.Fed.{Tables}
 use Rattle.meaning.specs.Writers.{plain, written_reading, size, size_items, written, written_items}
 use Rattle.meaning.proofs.WritersPlay.{jump_on, length-written, length-items}

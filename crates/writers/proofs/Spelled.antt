@@ -1,5 +1,5 @@
 -- Names by their bytes, and their numbers.
-use Rattle.std.proofs.Common.{◌≡◌, ℕ, suc, ◌+◌, ◌-◌, ◌<◌, ◌≤◌, min, Bool, true, false, cond, ◌⊎◌, List, [], ◌∷◌, length, get_or, take, drop, Some, None, Decides, Option, sym, refl, ap, ◌∙◌, inl, inr, add-one, arith, length-drop}
+use Rattle.std.proofs.Common.{◌≡◌, ℕ, suc, ◌+◌, ◌-◌, ◌<◌, ◌≤◌, min, Bool, true, false, cond, List, [], length, get_or, take, drop, Some, None, Decides, sym, refl, ap, ◌∙◌, inl, inr, add-one, arith, length-drop}
 use Rattle.std.proofs.lemmas.List.{take_all, drop_all, at_drop_more, at_drop_all}
 use Rattle.std.proofs.lemmas.Slice.Eq.{compares_Decides}
 use Rattle.std.proofs.lemmas.Bool.{cases_lt}

@@ -1,3 +1,5 @@
+#![tactic(auto)]
+
 mod names;
 mod sizes;
 mod whole;

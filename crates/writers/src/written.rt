@@ -8,6 +8,7 @@ ghost use Rattle.records.specs.Checks.{expr_fault};
 ghost use Rattle.code.specs.declared.ops.Op.TheVariants.{JumpIfTrue, JumpIfFalse};
 ghost use Rattle.meaning.specs.Compiled.{spelled};
 ghost use Rattle.meaning.specs.Writers.{writer as writing, written_reading, size as size_of, written as segment_of, plain};
+ghost use Rattle.meaning.proofs.Tabled.{naming-lawful};
 ghost use Rattle.writers.specs.Leaves.{naming, leaf_of, decides, closing};
 
 use crate::names::number_of;
@@ -122,6 +123,8 @@ impl Writer for Written {
     const RISE: usize = 1;
 
     ghost means = { λ _ R names. writing (naming names) R };
+
+    ghost lawful = { λ _ R T passed. naming-lawful R T passed };
 
     fn bounds() -> (usize, usize) {
         (Self::LONGEST, Self::RISE)

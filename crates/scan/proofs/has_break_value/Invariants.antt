@@ -1,4 +1,4 @@
-use Rattle.std.proofs.Common.{◌-◌, ◌≤◌}
+use Rattle.std.proofs.Common.{◌-◌}
 use Rattle.records.specs.Tree.{records}
 use Rattle.records.specs.Accepts.{block_from}
 use Rattle.meaning.specs.Breaks.{has_break_value}

@@ -14,11 +14,11 @@ loop-place-preserved c =
     let i = c.loop-place.place in
     let ns = c.args.script.now.nodes.now in
     let left = c.leave.ensures in
-    let lent = c.as-slice.ensures.value in
-    let put = c.in-ok-put-line.ensures in
-    let entered = c.in-ok-enter.ensures in
+    let lent = c.as_slice.ensures.value in
+    let put = c.in_ok-put_line.ensures in
+    let entered = c.in_ok-enter.ensures in
     let more = outline-more R i ns (vec_items c.loop-place.around) (vec_items c.loop-place.out) no_node c.loop-place-test.true in
-    let same : outline_from R (i + 1) (drop (i + 1) ns) (around_next i (get_or ns i no_node) (still_around i (vec_items c.loop-place.around))) (line_text R i (get_or ns i no_node) (still_around i (vec_items c.loop-place.around)) (vec_items c.loop-place.out)) ≡ outline_from R (i + 1) (drop (i + 1) ns) (vec_items c.enter.new.around) (vec_items c.put-line.new.out) = cc in
+    let same : outline_from R (i + 1) (drop (i + 1) ns) (around_next i (get_or ns i no_node) (still_around i (vec_items c.loop-place.around))) (line_text R i (get_or ns i no_node) (still_around i (vec_items c.loop-place.around)) (vec_items c.loop-place.out)) ≡ outline_from R (i + 1) (drop (i + 1) ns) (vec_items c.enter.new.around) (vec_items c.put_line.new.out) = cc in
     c.loop-place.invariant ∙ (more ∙ same)
 
 pub returns : goal.returns

@@ -2,10 +2,10 @@ use Rattle.std.proofs.Common.{rules}
 use Rattle.intake.specs.Outlines.{expr_text}
 use Rattle.intake.proofs.outline.put_expr.Goals as goal
 
-pub returns-in-ok-put-list : goal.returns-in-ok-put-list
+pub returns-in_ok-put_list : goal.returns-in_ok-put_list
 unfolding expr_text
-returns-in-ok-put-list c = search rules
+returns-in_ok-put_list c = search rules
 
-pub returns-in-default : goal.returns-in-default
+pub returns-in_default : goal.returns-in_default
 unfolding expr_text
-returns-in-default c = search rules
+returns-in_default c = search rules

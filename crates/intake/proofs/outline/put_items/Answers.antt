@@ -11,8 +11,8 @@ loop-number-preserved c =
     let n = c.args.first + 1 + c.args.count - (i + 1) in
     let left : c.args.first + 1 + c.args.count - i ≡ suc n = omega arith in
     let more = items_more R (c.args.first + 1 + c.args.count - i) n i (vec_items c.loop-number.out) left in
-    let put = c.in-ok-put-item.ensures in
-    let same : items_text R n (i + 1) (head_if R i (expr_in R i) (vec_items c.loop-number.out ++ codes " ")) ≡ items_text R n (i + 1) (vec_items c.put-item.new.out) = cc in
+    let put = c.in_ok-put_item.ensures in
+    let same : items_text R n (i + 1) (head_if R i (expr_in R i) (vec_items c.loop-number.out ++ codes " ")) ≡ items_text R n (i + 1) (vec_items c.put_item.new.out) = cc in
     c.loop-number.invariant ∙ (more ∙ same)
 
 pub returns : goal.returns

@@ -2,18 +2,18 @@ use Rattle.std.proofs.Common.{rules}
 use Rattle.intake.specs.Outlines.{link_text}
 use Rattle.intake.proofs.outline.put_link.Goals as goal
 
-pub returns-in-ok-extend-from-slice : goal.returns-in-ok-extend-from-slice
+pub returns-in_ok-extend_from_slice-in-Var : goal.returns-in_ok-extend_from_slice-in-Var
 unfolding link_text
-returns-in-ok-extend-from-slice c = search rules
+returns-in_ok-extend_from_slice-in-Var c = search rules
 
-pub returns-in-ok-extend-from-slice-2 : goal.returns-in-ok-extend-from-slice-2
+pub returns-in_ok-extend_from_slice-in-For : goal.returns-in_ok-extend_from_slice-in-For
 unfolding link_text
-returns-in-ok-extend-from-slice-2 c = search rules
+returns-in_ok-extend_from_slice-in-For c = search rules
 
-pub returns-in-ok-put-sign : goal.returns-in-ok-put-sign
+pub returns-in_ok-put_sign-in-Assignment : goal.returns-in_ok-put_sign-in-Assignment
 unfolding link_text
-returns-in-ok-put-sign c = search rules
+returns-in_ok-put_sign-in-Assignment c = search rules
 
-pub returns-in-default : goal.returns-in-default
+pub returns-in_default : goal.returns-in_default
 unfolding link_text
-returns-in-default c = search rules
+returns-in_default c = search rules

@@ -4,9 +4,9 @@ use Rattle.meaning.specs.LowerState.{add_break}
 use Rattle.lowering.proofs.Steps.{break-held}
 use Rattle.lowering.proofs.loops.add_break.Goals as goal
 
-pub returns-in-err-push : goal.returns-in-err-push
+pub returns-in_err-push : goal.returns-in_err-push
 unfolding add_break
-returns-in-err-push c = search rules
+returns-in_err-push c = search rules
 
 pub returns-then-c-gt0 : goal.returns-then-c-gt0
 unfolding add_break

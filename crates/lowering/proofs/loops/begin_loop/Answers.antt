@@ -1,4 +1,4 @@
-use Rattle.std.proofs.Common.{◌≡◌, ◌∙◌, arith, rules}
+use Rattle.std.proofs.Common.{◌∙◌, arith, rules}
 use Rattle.std.proofs.lemmas.List.{length-take-le, take_more_set, length-set}
 use Rattle.meaning.specs.LowerState.{enter_loop}
 use Rattle.lowering.proofs.Bounds.{counted-set}
@@ -8,10 +8,10 @@ pub returns-then-c-ge64 : goal.returns-then-c-ge64
 unfolding enter_loop
 returns-then-c-ge64 c = search (rules, length-take-le)
 
-pub invariant-of-c : goal.invariant-of-c
-invariant-of-c c =
+pub invariant_of-c : goal.invariant_of-c
+invariant_of-c c =
     let a = c.args.c.now in
-    (omega arith, (length-set _ _ _ ∙ a.table, (a.code_fits, (counted-set _ _ _ _ (omega arith) a.counted, (a.iterated, (a.handled, tt))))))
+    record { few = omega arith; table = length-set _ _ _ ∙ a.table; code_fits = a.code_fits; counted = counted-set _ _ _ _ (omega arith) a.counted; iterated = a.iterated; handled = a.handled }
 
 pub returns : goal.returns
 unfolding enter_loop

@@ -1,4 +1,4 @@
-use Rattle.std.proofs.Common.{◌≡◌, ℕ, ◌≤◌}
+use Rattle.std.proofs.Common.{◌≡◌, ℕ}
 use Rattle.code.specs.declared.ops.Row.{Row}
 use Rattle.code.specs.declared.ops.AssignOp.{AssignOp}
 use Rattle.meaning.specs.LowerState.{Pile, Level}

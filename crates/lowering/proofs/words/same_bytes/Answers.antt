@@ -1,4 +1,3 @@
-use Rattle.std.proofs.Common.{rules}
 use Rattle.std.proofs.lemmas.Slice.Eq.{slice_eq-Decides}
 use Rattle.lowering.proofs.Bounds.{decided}
 use Rattle.lowering.proofs.words.same_bytes.Goals as goal

@@ -5,7 +5,7 @@ use Rattle.records.proofs.checks.check.Goals as goal
 pub returns : goal.returns
 returns c =
     record {
-      answer = c.check-all.ensures;
-      tree = by-tree (records c.args.script.now) c.check-all.result c.check-all.ensures;
-      sound = sound-if-ok (records c.args.script.now) c.check-all.result c.check-all.ensures;
+      answer = c.check_all.ensures;
+      tree = by-tree (records c.args.script.now) c.check_all.result c.check_all.ensures;
+      sound = sound-if-ok (records c.args.script.now) c.check_all.result c.check_all.ensures;
     }

@@ -4,13 +4,13 @@ use Rattle.records.specs.Checks.{operator_law}
 use Rattle.records.proofs.Bools.{every-on, every-stops, every-ends}
 use Rattle.records.proofs.checks.check_operators.Goals as goal
 
-pub returns-then-not-operator-is-sound : goal.returns-then-not-operator-is-sound
-returns-then-not-operator-is-sound c =
-    every-stops (operator_law (records c.args.script.now)) _ c.loop-i.i c.loop-i.invariant c.loop-i-test.true (sym c.if-not-operator-is-sound.ensures)
+pub returns-then-not-operator_is_sound : goal.returns-then-not-operator_is_sound
+returns-then-not-operator_is_sound c =
+    every-stops (operator_law (records c.args.script.now)) _ c.loop-i.i c.loop-i.invariant c.loop-i-test.true (sym c.if-not-operator_is_sound.ensures)
 
 pub loop-i-preserved : goal.loop-i-preserved
 loop-i-preserved c =
-    every-on (operator_law (records c.args.script.now)) _ c.loop-i.i c.loop-i.invariant c.loop-i-test.true (sym c.if-not-operator-is-sound.ensures)
+    every-on (operator_law (records c.args.script.now)) _ c.loop-i.i c.loop-i.invariant c.loop-i-test.true (sym c.if-not-operator_is_sound.ensures)
 
 pub returns : goal.returns
 returns c = every-ends (operator_law (records c.args.script.now)) _ c.loop-i.i c.loop-i.invariant c.loop-i-test.false

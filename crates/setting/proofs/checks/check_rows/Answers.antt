@@ -4,13 +4,13 @@ use Rattle.meaning.specs.SetCode.{row_fine, rows_fine}
 use Rattle.setting.proofs.Alls.{all-on, all-stops, all-ends}
 use Rattle.setting.proofs.checks.check_rows.Goals as goal
 
-pub returns-then-not-row-is-fine : goal.returns-then-not-row-is-fine
-returns-then-not-row-is-fine c =
-    rw (all-stops (row_fine c.args.exprs) (rows_fine c.args.exprs) refl (λ x xs. refl) c.args.rows.now c.loop-i.i no_row c.loop-i-test.true c.loop-i.invariant (sym c.if-not-row-is-fine.ensures)) refl
+pub returns-then-not-row_is_fine : goal.returns-then-not-row_is_fine
+returns-then-not-row_is_fine c =
+    rw (all-stops (row_fine c.args.exprs) (rows_fine c.args.exprs) refl (λ x xs. refl) c.args.rows.now c.loop-i.i no_row c.loop-i-test.true c.loop-i.invariant (sym c.if-not-row_is_fine.ensures)) refl
 
 pub loop-i-preserved : goal.loop-i-preserved
 loop-i-preserved c =
-    all-on (row_fine c.args.exprs) (rows_fine c.args.exprs) refl (λ x xs. refl) c.args.rows.now c.loop-i.i no_row c.loop-i-test.true c.loop-i.invariant (sym c.if-not-row-is-fine.ensures)
+    all-on (row_fine c.args.exprs) (rows_fine c.args.exprs) refl (λ x xs. refl) c.args.rows.now c.loop-i.i no_row c.loop-i-test.true c.loop-i.invariant (sym c.if-not-row_is_fine.ensures)
 
 pub returns : goal.returns
 returns c =

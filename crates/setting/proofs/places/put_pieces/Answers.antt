@@ -16,15 +16,15 @@ loop-i-init g c =
     let W = g.W.Writer.means c.args.writer.now R (spelled R c.args.names.now) in
     (omega arith, refl, ap (λ (k : ℕ). write_faults W c.args.rows.now k c.args.ops.now) (omega arith), sym (place-zero W c.args.rows.now c.args.ops.now), λ j h. absurd {A = get_or c.args.places.now j 0 ≡ place_of W c.args.rows.now c.args.ops.now j} (omega arith))
 
-pub returns-in-err-at : goal.returns-in-err-at
-returns-in-err-at g c =
+pub returns-in_err-at : goal.returns-in_err-at
+returns-in_err-at g c =
     let R = records c.args.script.now in
     let W = g.W.Writer.means c.args.writer.now R (spelled R c.args.names.now) in
-    let p = err_from_is_err_and c.from-residual.result c.from-residual.ensures.1 in
+    let p = err_from_is_err_and c.from_residual.result c.from_residual.ensures.1 in
     let same : length c.args.out.now ≡ length c.loop-i.out = sym c.loop-i.auto.out in
     rw (p.1, p.2)
     (ap (λ (k : ℕ). write_faults W c.args.rows.now k c.args.ops.now) same ∙ c.loop-i.invariant.2
-    ∙ faults-stop W c.args.rows.now c.args.ops.now c.loop-i.i c.loop-i-test.true (length c.loop-i.out - c.loop-i.at) (number_of c.in-err-at.field-0.0) c.in-err-at.ensures)
+    ∙ faults-stop W c.args.rows.now c.args.ops.now c.loop-i.i c.loop-i-test.true (length c.loop-i.out - c.loop-i.at) (number_of c.in_err-at.field-0.0) c.in_err-at.ensures)
 
 pub loop-i-preserved : goal.loop-i-preserved
 loop-i-preserved g c =
@@ -33,15 +33,15 @@ loop-i-preserved g c =
     let rows = c.args.rows.now in
     let ops = c.args.ops.now in
     let h = c.loop-i-test.true in
-    let put = c.in-ok-at.ensures in
+    let put = c.in_ok-at.ensures in
     let x = get_or ops c.loop-i.i blank in
-    let same : length c.put-piece.new.out ≡ length c.loop-i.out = c.put-piece.auto.out in
-    let less : length c.put-piece.new.out - c.in-ok-at.at ≡ length c.loop-i.out - c.loop-i.at - width W rows x = omega (arith, put.1, same) in (
+    let same : length c.put_piece.new.out ≡ length c.loop-i.out = c.put_piece.auto.out in
+    let less : length c.put_piece.new.out - c.in_ok-at.at ≡ length c.loop-i.out - c.loop-i.at - width W rows x = omega (arith, put.1, same) in (
       omega (arith, put.2, same),
-      code-on W rows ops c.loop-i.i h (λ t. t) c.loop-i.at c.in-ok-at.at c.loop-i.out c.put-piece.new.out c.loop-i.invariant.0 put.1 put.3
+      code-on W rows ops c.loop-i.i h (λ t. t) c.loop-i.at c.in_ok-at.at c.loop-i.out c.put_piece.new.out c.loop-i.invariant.0 put.1 put.3
           (piece-length W rows (λ t. t) 0 c.loop-i.at x (expr_of rows x.op)) _ c.loop-i.invariant.1,
       ap (λ (k : ℕ). write_faults W rows k ops) same ∙ c.loop-i.invariant.2 ∙ faults-on W rows ops c.loop-i.i h (length c.loop-i.out - c.loop-i.at) _ less put.0,
-      place-on W rows ops c.loop-i.i h c.loop-i.at c.in-ok-at.at c.loop-i.invariant.3 put.1,
+      place-on W rows ops c.loop-i.i h c.loop-i.at c.in_ok-at.at c.loop-i.invariant.3 put.1,
       places-on c.loop-i.places (place_of W rows ops) c.loop-i.i c.loop-i.at (omega (arith, c.loop-i.auto.places, c.requires.remembered)) c.loop-i.invariant.3 c.loop-i.invariant.4,
     )
 

@@ -1,6 +1,5 @@
 use Rattle.std.proofs.Common.{get_or, refl, ap, arith}
 use Rattle.code.specs.declared.ops.Op.{Op}
-use Rattle.code.specs.declared.ops.Instr.{Instr}
 use Rattle.meaning.specs.SetCode.{target_of, target_fine, targets_fine}
 use Rattle.setting.specs.Set.{blank}
 use Rattle.setting.proofs.Alls.{all_here}

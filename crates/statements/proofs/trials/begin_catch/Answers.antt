@@ -1,14 +1,12 @@
-use Rattle.std.proofs.Common.{◌≡◌, length, take, rules}
-use Rattle.lowering.specs.View.{slots_of}
-use Rattle.tables.specs.Stacks.{pile}
+use Rattle.std.proofs.Common.{rules}
 use Rattle.statements.proofs.trials.begin_catch.Goals as goal
 
-pub returns-in-err-declare-catch : goal.returns-in-err-declare-catch
-returns-in-err-declare-catch c =
+pub returns-in_err-declare_catch : goal.returns-in_err-declare_catch
+returns-in_err-declare_catch c =
     record {
       lent = search rules;
       did = λ R rows names opers breaks block.
-          let h = c.in-err-declare-catch.ensures.did R rows names opers breaks block in
+          let h = c.in_err-declare_catch.ensures.did R rows names opers breaks block in
           let d = c.depth-outside.ensures in
           search (rules, d, h);
     }
@@ -18,7 +16,7 @@ returns c =
     record {
       lent = search rules;
       did = λ R rows names opers breaks block.
-          let h = c.in-ok-declare-catch.ensures.did R rows names opers breaks block in
+          let h = c.in_ok-declare_catch.ensures.did R rows names opers breaks block in
           let d = c.depth-outside.ensures in
           search (rules, d, h);
     }

@@ -6,14 +6,14 @@ use Rattle.words.proofs.hex.spell.Goals as goal
 pub returns-then-word-i-eq1 : goal.returns-then-word-i-eq1
 returns-then-word-i-eq1 c = c.loop-i.invariant ∙ spell-odd (vec_items c.loop-i.bytes) c.args.word.now c.loop-i.i (omega arith)
 
-pub returns-in-default : goal.returns-in-default
-returns-in-default c = c.loop-i.invariant ∙ spell-bad (vec_items c.loop-i.bytes) c.args.word.now c.loop-i.i (omega arith) (sym c.in-default.ensures)
+pub returns-in_default : goal.returns-in_default
+returns-in_default c = c.loop-i.invariant ∙ spell-bad (vec_items c.loop-i.bytes) c.args.word.now c.loop-i.i (omega arith) (sym c.in_default.ensures)
 
 pub loop-i-preserved : goal.loop-i-preserved
 loop-i-preserved c =
     c.loop-i.invariant
     ∙ (spell-more (vec_items c.loop-i.bytes) c.args.word.now c.loop-i.i c.in-Some.byte (omega arith) (sym c.in-Some.ensures)
-    ∙ ap (λ (bs : List ℕ). spelt bs (drop (c.loop-i.i + 2) c.args.word.now)) (sym c.in-ok-push.ensures.items))
+    ∙ ap (λ (bs : List ℕ). spelt bs (drop (c.loop-i.i + 2) c.args.word.now)) (sym c.in_ok-push.ensures.items))
 
 pub returns : goal.returns
 returns c = c.loop-i.invariant ∙ spell-end (vec_items c.loop-i.bytes) c.args.word.now c.loop-i.i c.loop-i-test.false

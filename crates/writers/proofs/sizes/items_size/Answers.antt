@@ -1,6 +1,5 @@
-use Rattle.std.proofs.Common.{◌≡◌, ◌≤◌, arith}
+use Rattle.std.proofs.Common.{arith}
 use Rattle.records.specs.Tree.{records}
-use Rattle.writers.specs.Sizes.{weight}
 use Rattle.writers.proofs.Items.{weigh-step, weigh-none}
 use Rattle.writers.proofs.Forms.{weight-most}
 use Rattle.writers.proofs.sizes.items_size.Goals as goal
@@ -16,7 +15,7 @@ loop-i-preserved c =
     let R = records c.args.script.now in
     let i = c.loop-i.invariant.0 in
     let s = weigh-step R c.loop-i.i c.args.to c.loop-i-test.true in
-    let w = c.weight-of-size.ensures in
+    let w = c.weight_of-size.ensures in
     let m = weight-most R c.loop-i.i in
     let l = c.if-size-gt65.false in
     (omega arith, omega arith)

@@ -1,9 +1,7 @@
-use Rattle.std.proofs.Common.{◌≡◌, ◌+◌, ◌-◌, ◌<◌, ◌≤◌, length, set, Some, None, Option, sym, refl, ap, ◌∙◌, add-one, arith}
+use Rattle.std.proofs.Common.{◌≡◌, ◌+◌, set, Some, None, Option, sym, refl, ap, ◌∙◌, add-one, arith}
 use Rattle.records.specs.declared.kinds.Form.{Form}
 use Rattle.records.specs.Meanings.{form_of}
 use Rattle.records.specs.Tree.{records, expr_at}
-use Rattle.code.specs.declared.ops.Op.{Op}
-use Rattle.code.specs.declared.ops.Instr.{Instr}
 use Rattle.meaning.specs.Compiled.{spelled}
 use Rattle.meaning.specs.Writers.{plain}
 use Rattle.writers.specs.Leaves.{naming, leaf_of, decides}
@@ -18,18 +16,18 @@ bounds-out-at t c =
     let e = c.args.expr in
     let lo = c.requires.inside.0 in
     let hi = c.requires.inside.1 in
-    let d : decides (form_of (expr_at R e).form) ≡ None = sym (c.in-default.ensures ∙ ap decides c.of-form.ensures) in
+    let d : decides (form_of (expr_at R e).form) ≡ None = sym (c.in_default.ensures ∙ ap decides c.of-form.ensures) in
     let x = one T R c.requires.checked e c.args.at c.args.out.now d in
     omega (arith, x.0, c.requires.within)
 
-pub returns-in-default : goal.returns-in-default
-returns-in-default t c =
+pub returns-in_default : goal.returns-in_default
+returns-in_default t c =
     let R = records c.args.script.now in
     let T = naming (spelled R c.args.names.now) in
     let e = c.args.expr in
     let lo = c.requires.inside.0 in
     let hi = c.requires.inside.1 in
-    let d : decides (form_of (expr_at R e).form) ≡ None = sym (c.in-default.ensures ∙ ap decides c.of-form.ensures) in
+    let d : decides (form_of (expr_at R e).form) ≡ None = sym (c.in_default.ensures ∙ ap decides c.of-form.ensures) in
     let x = one T R c.requires.checked e c.args.at c.args.out.now d in
     record {
       place = x.0;
@@ -38,8 +36,8 @@ returns-in-default t c =
           (c.bare.ensures ∙ ap plain c.leaf.ensures ∙ ap (λ (m : Option Form). plain (leaf_of T R m e)) c.of-form.ensures) ∙ x.1;
     }
 
-pub overflow-add-expr : goal.overflow-add-expr
-overflow-add-expr t c =
+pub overflow_add-expr : goal.overflow_add-expr
+overflow_add-expr t c =
     let R = records c.args.script.now in
     let T = naming (spelled R c.args.names.now) in
     let e = c.args.expr in
@@ -50,8 +48,8 @@ overflow-add-expr t c =
     let within = f.within in
     omega (arith, c.requires.few)
 
-pub items-size-requires : goal.items-size-requires
-items-size-requires t c =
+pub items_size-requires : goal.items_size-requires
+items_size-requires t c =
     let R = records c.args.script.now in
     let T = naming (spelled R c.args.names.now) in
     let e = c.args.expr in
@@ -62,8 +60,8 @@ items-size-requires t c =
     let within = f.within in
     record { within = within; ordered = omega arith }
 
-pub overflow-add-decided : goal.overflow-add-decided
-overflow-add-decided t c =
+pub overflow_add-decided : goal.overflow_add-decided
+overflow_add-decided t c =
     let R = records c.args.script.now in
     let T = naming (spelled R c.args.names.now) in
     let e = c.args.expr in
@@ -72,11 +70,11 @@ overflow-add-decided t c =
     let on = c.in-Some.any in
     let d : decides (form_of (expr_at R e).form) ≡ Some on = sym (c.in-Some.ensures ∙ ap decides c.of-form.ensures) in
     let s = list-size T R c.requires.checked e on d in
-    let n = counted T R c.requires.checked e on d lo hi c.items-size.result c.items-size.ensures (omega (arith, c.requires.short)) in
+    let n = counted T R c.requires.checked e on d lo hi c.items_size.result c.items_size.ensures (omega (arith, c.requires.short)) in
     omega (arith, c.requires.short)
 
-pub overflow-add-decided-2 : goal.overflow-add-decided-2
-overflow-add-decided-2 t c =
+pub overflow_add-decided-2 : goal.overflow_add-decided-2
+overflow_add-decided-2 t c =
     let R = records c.args.script.now in
     let T = naming (spelled R c.args.names.now) in
     let e = c.args.expr in
@@ -85,11 +83,11 @@ overflow-add-decided-2 t c =
     let on = c.in-Some.any in
     let d : decides (form_of (expr_at R e).form) ≡ Some on = sym (c.in-Some.ensures ∙ ap decides c.of-form.ensures) in
     let s = list-size T R c.requires.checked e on d in
-    let n = counted T R c.requires.checked e on d lo hi c.items-size.result c.items-size.ensures (omega (arith, c.requires.short)) in
+    let n = counted T R c.requires.checked e on d lo hi c.items_size.result c.items_size.ensures (omega (arith, c.requires.short)) in
     omega (arith, c.requires.short)
 
-pub overflow-cast-decided : goal.overflow-cast-decided
-overflow-cast-decided t c =
+pub overflow_cast-decided : goal.overflow_cast-decided
+overflow_cast-decided t c =
     let R = records c.args.script.now in
     let T = naming (spelled R c.args.names.now) in
     let e = c.args.expr in
@@ -98,11 +96,11 @@ overflow-cast-decided t c =
     let on = c.in-Some.any in
     let d : decides (form_of (expr_at R e).form) ≡ Some on = sym (c.in-Some.ensures ∙ ap decides c.of-form.ensures) in
     let s = list-size T R c.requires.checked e on d in
-    let n = counted T R c.requires.checked e on d lo hi c.items-size.result c.items-size.ensures (omega (arith, c.requires.short)) in
+    let n = counted T R c.requires.checked e on d lo hi c.items_size.result c.items_size.ensures (omega (arith, c.requires.short)) in
     omega (arith, c.requires.short)
 
-pub overflow-add-item : goal.overflow-add-item
-overflow-add-item t c =
+pub overflow_add-item : goal.overflow_add-item
+overflow_add-item t c =
     let R = records c.args.script.now in
     let T = naming (spelled R c.args.names.now) in
     let e = c.args.expr in
@@ -145,7 +143,7 @@ put-place-requires t c =
     let inside = item-within T R c.requires.checked c.loop-item.item (expr_at R e).end l inv.tiled in
     let low = inv.low in
     let same = c.loop-item.auto.out in
-    (omega arith, (c.requires.checked, (c.requires.few, (c.requires.numbered, (omega arith, (omega arith, (omega (arith, c.requires.within), omega (arith, c.requires.short))))))))
+    (omega arith, (c.requires.checked, (c.requires.few, (c.requires.numbered, ((omega arith, omega arith), (omega (arith, c.requires.within), omega (arith, c.requires.short)))))))
 
 pub bounds-script-item : goal.bounds-script-item
 bounds-script-item t c =
@@ -159,8 +157,8 @@ bounds-script-item t c =
     let within = f.within in
     omega (arith, c.loop-item-test.true)
 
-pub offset-bounds-out-place : goal.offset-bounds-out-place
-offset-bounds-out-place t c =
+pub offset_bounds-out-place : goal.offset_bounds-out-place
+offset_bounds-out-place t c =
     let R = records c.args.script.now in
     let T = naming (spelled R c.args.names.now) in
     let e = c.args.expr in
@@ -205,8 +203,8 @@ bounds-out-place t c =
     let p = c.put-place.ensures.place in
     omega (arith, c.requires.within, c.requires.short)
 
-pub overflow-add-place : goal.overflow-add-place
-overflow-add-place t c =
+pub overflow_add-place : goal.overflow_add-place
+overflow_add-place t c =
     let R = records c.args.script.now in
     let T = naming (spelled R c.args.names.now) in
     let e = c.args.expr in
@@ -305,37 +303,37 @@ returns t c =
     let on = c.in-Some.any in
     let d : decides (form_of (expr_at R e).form) ≡ Some on = sym (c.in-Some.ensures ∙ ap decides c.of-form.ensures) in
     let s = list-size T R c.requires.checked e on d in
-    let n = counted T R c.requires.checked e on d lo hi c.items-size.result c.items-size.ensures (omega (arith, c.requires.short)) in
+    let n = counted T R c.requires.checked e on d lo hi c.items_size.result c.items_size.ensures (omega (arith, c.requires.short)) in
     let g = done T R c.requires.checked on _ (expr_at R e).end _ _ c.loop-item.item c.loop-item.place c.loop-item.out c.loop-item.invariant.1 within c.loop-item-test.false in
     let r = finish T R c.requires.checked e on d _ c.args.at c.loop-item.place c.args.out.now c.loop-item.out c.close.new.out g.0 (omega (arith, g.0)) g.1 c.close.ensures.after in
     record { place = c.close.ensures.place ∙ r.0; after = r.1 }
 
-pub overflow-cast-position : goal.overflow-cast-position
-overflow-cast-position t c =
+pub overflow_cast-position : goal.overflow_cast-position
+overflow_cast-position t c =
     let R = records c.args.script.now in
     let T = naming (spelled R c.args.names.now) in
     let f = fine-at T R c.requires.checked c.args.expr c.requires.inside.0 c.requires.inside.1 in
     let within = f.within in
     omega (arith, c.loop-item-test.true, c.requires.few)
 
-pub offset-bounds-script-item : goal.offset-bounds-script-item
-offset-bounds-script-item t c =
+pub offset_bounds-script-item : goal.offset_bounds-script-item
+offset_bounds-script-item t c =
     let R = records c.args.script.now in
     let T = naming (spelled R c.args.names.now) in
     let f = fine-at T R c.requires.checked c.args.expr c.requires.inside.0 c.requires.inside.1 in
     let within = f.within in
     omega (arith, c.loop-item-test.true, c.requires.few)
 
-pub overflow-cast-item : goal.overflow-cast-item
-overflow-cast-item t c =
+pub overflow_cast-item : goal.overflow_cast-item
+overflow_cast-item t c =
     let R = records c.args.script.now in
     let T = naming (spelled R c.args.names.now) in
     let f = fine-at T R c.requires.checked c.args.expr c.requires.inside.0 c.requires.inside.1 in
     let within = f.within in
     omega (arith, c.loop-item-test.true, c.requires.few)
 
-pub offset-bounds-script-item-in-loop-item : goal.offset-bounds-script-item-in-loop-item
-offset-bounds-script-item-in-loop-item t c =
+pub offset_bounds-script-item-in-loop-item : goal.offset_bounds-script-item-in-loop-item
+offset_bounds-script-item-in-loop-item t c =
     let R = records c.args.script.now in
     let T = naming (spelled R c.args.names.now) in
     let f = fine-at T R c.requires.checked c.args.expr c.requires.inside.0 c.requires.inside.1 in

@@ -7,4 +7,4 @@ use Rattle.lowering.specs.View.{Lent, st}
 use Rattle.lowering.proofs.state.Lowering.emit_times.Given as goal
 
 abbrev pub invariant-loop-i : goal.invariant-loop-i
-invariant-loop-i l = Lent l.initial.self l.self × ((rows : Pile Row) (names : Pile ℕ) (opers : Pile AssignOp) (slots breaks : Pile ℕ) (block : Level) → emits l.times l.op (st l.initial.self rows names opers slots breaks block) ≡ emits (l.times - l.-i) l.op (st l.self rows names opers slots breaks block))
+invariant-loop-i l = Lent l.initial.self l.self × ((rows : Pile Row) (names : Pile ℕ) (opers : Pile AssignOp) (slots breaks : Pile ℕ) (block : Level) → emits l.times l.op (st l.initial.self rows names opers slots breaks block) ≡ emits (l.times - l._i) l.op (st l.self rows names opers slots breaks block))

@@ -8,7 +8,7 @@ pub returns-then-site-self : goal.returns-then-site-self
 unfolding patch_to
 returns-then-site-self c =
     let a = c.args.self.now in
-    let h = patch-held a.code.now a.placed c.args.site c.args.target c.with-target.result c.if-site-self.true c.with-target.ensures in
+    let h = patch-held a.code.now a.placed c.args.site c.args.target c.with_target.result c.if-site-self.true c.with_target.ensures in
     record { lent = search rules; did = search (rules, h, length-set); steady = search rules }
 
 pub returns-else-site-self : goal.returns-else-site-self

@@ -1,4 +1,4 @@
-use Rattle.std.proofs.Common.{◌≡◌, take, drop, sym, ap, rules}
+use Rattle.std.proofs.Common.{take, drop, sym, ap}
 use Rattle.std.proofs.lemmas.List.{get_or_past}
 use Rattle.records.specs.declared.types.Label.{Label}
 use Rattle.records.specs.Tree.{no_label}

@@ -4,9 +4,9 @@ use Rattle.player.specs.Players.{held}
 use Rattle.player.proofs.Slots.{held_cut}
 use Rattle.player.proofs.machine.Player.cut_slots.Goals as goal
 
-pub invariant-of-self : goal.invariant-of-self
+pub invariant_of-self : goal.invariant_of-self
 unfolding held
-invariant-of-self c = search (rules, length-take-le)
+invariant_of-self c = search (rules, length-take-le)
 
 pub returns : goal.returns
 unfolding held

@@ -1,4 +1,4 @@
-use Rattle.std.proofs.Common.{◌≡◌, ◌+◌, ◌-◌, sym, ap, ◌∙◌, arith}
+use Rattle.std.proofs.Common.{◌+◌, ◌-◌, ◌∙◌}
 use Rattle.meaning.specs.Calls.{plays}
 use Rattle.player.proofs.Plays.{kept-kept, onward, spends, on-ready, on-waits, on-ended, on-stuck}
 use Rattle.player.proofs.machine.Player.play.Goals as goal

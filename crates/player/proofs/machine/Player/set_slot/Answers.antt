@@ -8,9 +8,9 @@ pub bounds-self-i : goal.bounds-self-i
 unfolding held
 bounds-self-i c = search (rules, length-take-le)
 
-pub offset-bounds-self-i : goal.offset-bounds-self-i
+pub offset_bounds-self-i : goal.offset_bounds-self-i
 unfolding held
-offset-bounds-self-i c = search (rules, length-take-le)
+offset_bounds-self-i c = search (rules, length-take-le)
 
 pub returns : goal.returns
 unfolding held

@@ -2,10 +2,10 @@ use Rattle.std.proofs.Common.{rules}
 use Rattle.words.specs.Reads.{no_more}
 use Rattle.words.proofs.words.Words.end.Goals as goal
 
-pub returns-then-at-end : goal.returns-then-at-end
+pub returns-then-at_end : goal.returns-then-at_end
 unfolding no_more
-returns-then-at-end c = search rules
+returns-then-at_end c = search rules
 
-pub returns-else-at-end : goal.returns-else-at-end
+pub returns-else-at_end : goal.returns-else-at_end
 unfolding no_more
-returns-else-at-end c = search rules
+returns-else-at_end c = search rules

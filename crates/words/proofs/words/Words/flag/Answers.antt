@@ -2,9 +2,9 @@ use Rattle.std.proofs.Common.{rules}
 use Rattle.words.specs.Reads.{a_flag}
 use Rattle.words.proofs.words.Words.flag.Goals as goal
 
-pub returns-in-err-word : goal.returns-in-err-word
+pub returns-in_err-word : goal.returns-in_err-word
 unfolding a_flag
-returns-in-err-word c = search rules
+returns-in_err-word c = search rules
 
 pub returns-in-Some : goal.returns-in-Some
 unfolding a_flag

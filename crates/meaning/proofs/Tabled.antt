@@ -1,14 +1,22 @@
 -- What Written writes depends on the names of the tables alone.
-use Rattle.std.proofs.Common.{◌≡◌, ℕ, zero, suc, ◌+◌, Bool, true, false, cond, ◌&&◌, ltb, leb, List, [], ◌∷◌, ◌++◌, length, refl, ap, ◌∙◌, ap₂}
+use Rattle.std.proofs.Common.{◌≡◌, ℕ, zero, suc, ◌+◌, true, false, cond, ◌&&◌, ltb, leb, List, [], ◌∷◌, ◌++◌, length, refl, ap, ◌∙◌, ap₂, subst, arith}
+use mathlib.Core.Option.{none}
 use Rattle.records.specs.Tree.{Records, expr_at}
+use Rattle.records.specs.Checks.{expr_sound, expr_fault}
+use Rattle.records.proofs.Bools.{each_all}
+use Rattle.records.proofs.Expressions.{sound-fine}
 use Rattle.code.specs.declared.ops.Op.{Op}
 use Rattle.code.specs.declared.ops.Op.TheVariants.{Bool as BoolOp, Jump, JumpIfTrue, JumpIfFalse}
 use Rattle.code.specs.declared.ops.Instr.{Instr}
-use Rattle.meaning.specs.Reading.{Reading, Reading.unit, Reading.yes, Reading.opaque, Reading.no, Reading.name, Reading.all, Reading.any, Items, Items.end, Items.item}
+use Rattle.meaning.specs.Reading.{Bytes, Reading, Reading.unit, Reading.yes, Reading.opaque, Reading.no, Reading.name, Reading.all, Reading.any, Items, Items.end, Items.item}
 use Rattle.meaning.specs.Fed.{Tables}
-use Rattle.meaning.specs.Writer.{Writer}
+use Rattle.meaning.specs.Writer.{Writer, Lawful}
 use Rattle.meaning.specs.Writers.{is_record, plain, form_reading, items_from, written_reading, size, size_items, written, written_items, writer}
-use Rattle.writers.specs.Leaves.{naming}
+use Rattle.meaning.proofs.WritersLaw.{written-lawful}
+
+-- The tables with these names and no operators.
+abbrev naming : List Bytes → Tables
+naming names = record { names = names; signs = [] }
 
 module _ (T : Tables) (R : Records) where
   same-items : (k a b : ℕ) → items_from T R k a b ≡ items_from (naming T.names) R k a b
@@ -46,3 +54,9 @@ module _ (T : Tables) (R : Records) where
   pub same_writer : writer T R ≡ writer (naming T.names) R
   same_writer =
       λ i. record { known = λ e. is_record (length R.exprs) e && leb (size (same-reading e i)) 64; reading = λ e. same-reading e i; segment = λ e. same-segment e i; longest = 64; rise = 1 }
+
+-- So Written keeps the writers' law where it is given the names alone.
+pub naming-lawful : (R : Records) (T : Tables) → expr_fault R ≡ none → Lawful T (length R.exprs) (writer (naming T.names) R)
+naming-lawful R T passed =
+    subst (λ (W : Writer). Lawful T (length R.exprs) W) (same_writer T R)
+    (written-lawful T R (λ i lo hi. let f = sound-fine R i hi (each_all (expr_sound R) (length R.exprs) passed i lo hi) in (omega (arith, f.after), f.within)))
