@@ -1,4 +1,6 @@
 // Reads scripts, and prints for each whether its records are accepted.
+#![tactic(auto)]
+
 mod answers;
 mod lookups;
 mod outline;

@@ -1,5 +1,6 @@
 // The checks of records, tried at both sides of every limit: tables of records with the numbers that they are refused
 // with, 0 where they are accepted.
+#![tactic(auto)]
 
 #[cfg(test)]
 mod tests {

@@ -49,7 +49,7 @@ mod tests {
     fn pairs(rt: HostRuntime) {
         let mut bytes = Vec::new(rt.alloc());
         assert!(rt; spell(b"00fFa9", &mut bytes).is_ok());
-        assert!(rt; bytes.as_slice() == [0, 255, 169]);
+        assert!(rt; bytes.as_slice() == [0, 255, 169].as_slice());
         assert!(rt; spell(b"0", &mut bytes).is_err());
         assert!(rt; spell(b"0g", &mut bytes).is_err());
     }
