@@ -1,10 +1,6 @@
 -- The tables of a script that is being read, and what a line adds to them.
 use Rattle.std.specs.Prelude.{◌≡◌, ℕ, Bool, true, false, cond, List, [], ◌∷◌, ◌++◌, Ok, Err, vec_items, codes, Result}
 use Rattle.std.specs.Str.{bytes_eq}
-use Rattle.records.specs.declared.types.Label.{Label}
-use Rattle.records.specs.declared.types.Expr.{Expr}
-use Rattle.records.specs.declared.types.Operator.{Operator}
-use Rattle.records.specs.declared.types.Node.{Node}
 use Rattle.records.specs.Tree.{Records, no_label, no_expr, no_operator}
 use Rattle.words.specs.declared.expected.Expected.{Expected}
 use Rattle.words.specs.declared.expected.Expected.TheVariants.{Script as AScript, End as AnEnd}

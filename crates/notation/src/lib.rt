@@ -1,4 +1,6 @@
 // The notation of scripts: lines of words, read into the tables of a script.
+#![tactic(auto)]
+
 mod draft;
 mod lines;
 mod reader;

@@ -143,6 +143,8 @@ mod tests {
         assert!(rt; matches!(expected(&mut reader, b"\ttext 4a4B"), None));
         assert!(rt; matches!(reader.take(b"end"), Ok(Step::Complete)));
         let script = reader.draft().script();
-        assert!(rt; script.text == b"JK".as_slice() && script.nodes.len() == 1 && script.labels.len() == 1);
+        assert!(rt;
+            script.text == b"JK".as_slice() && script.nodes.len() == 1 && script.labels.len() == 1
+        );
     }
 }

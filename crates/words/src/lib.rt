@@ -1,4 +1,6 @@
 // Words of a line: what stands between blanks, and what words may stand for.
+#![tactic(auto)]
+
 mod expected;
 mod hex;
 mod numbers;

@@ -1,4 +1,4 @@
-use Rattle.std.proofs.Common.{◌≡◌, ℕ, ◌+◌, ◌<◌, List, length, drop, vec_items, sym, refl, ap, ◌∙◌, arith, rules}
+use Rattle.std.proofs.Common.{ℕ, ◌+◌, List, drop, vec_items, sym, ap, ◌∙◌, arith}
 use Rattle.words.specs.Hex.{spelt}
 use Rattle.words.proofs.Pairs.{spell-odd, spell-bad, spell-more, spell-end}
 use Rattle.words.proofs.hex.spell.Goals as goal
