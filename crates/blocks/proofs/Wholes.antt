@@ -7,7 +7,7 @@ use Rattle.code.specs.declared.shapes.Lowered.{Lowered}
 use Rattle.code.specs.declared.ops.Op.TheVariants.{Unit as UnitOp, DeclareLocal, Jump, JumpIfFalse, Tick, PushHandler, PopHandler, IterInit, IterNext, StoreShared}
 use Rattle.meaning.specs.LowerState.{Low, Out, Out.ok, Out.no, M, bind, emit_at, emit, here, patch_here, depth, may_declare, declare, set_iters, set_handlers, enter_loop}
 use Rattle.meaning.specs.Lower.{unset, leaves, residual, jump_if, meet, name_number, name_any, choosing, testing, looping, doing, going, may_catch, declare_any, trying}
-use Rattle.statements_next.specs.Parts.{begin_if, end_then, begin_while, end_while, begin_do, end_do, open_iter, loop_variable, begin_round, end_for, begin_try, end_body, begin_catch, end_catch}
+use Rattle.statements.specs.Parts.{begin_if, end_then, begin_while, end_while, begin_do, end_do, open_iter, loop_variable, begin_for, end_round, begin_try, end_body, begin_catch, end_caught}
 
 -- A first step that is itself a sequence.
 step : {X Y Z : Type 0} (o : Out X) (k : X → M Y) (l : Y → M Z) (n : X → M Z) → ((x : X) (t : Low) → n x t ≡ bind (k x) l t)
@@ -42,7 +42,7 @@ if-parts R e body has there q branch s =
 
 pub for-parts : (R : Records) (x : Name) (e : Exp) (mark : Position) (hasv valued : Bool) → valued ≡ hasv → (body : M Lowered) (s : Low)
     → going R x e mark hasv body s
-    ≡ bind depth (λ outside. bind (open_iter e.number e.start) (λ _. bind (loop_variable R x) (λ _. bind (begin_round e.at mark outside valued) (λ r. bind body (λ v. end_for r outside v valued))))) s
+    ≡ bind depth (λ outside. bind (open_iter e.number e.start) (λ _. bind (loop_variable R x) (λ _. bind (begin_for e.at mark outside valued) (λ r. bind body (λ v. end_round r outside v valued))))) s
 for-parts R x e mark hasv valued q body s =
     ap (λ (b : Bool). going R x e mark b body s) (sym q)
     ∙ under (depth s) _ _ (λ outside a. step (residual 1 e.number a) _ _ _ (λ _ b. step (emit_at IterInit e.start b) _ _ _ (λ _ c. step (set_iters suc c) _ _ _ (λ _ d. under (may_declare d) _ _ (λ _ f.
@@ -52,7 +52,7 @@ for-parts R x e mark hasv valued q body s =
 
 pub try-parts : (R : Records) (x : Option Name) (mark : Position) (body branch : M Lowered) (s : Low)
     → trying R x mark body branch s
-    ≡ bind (begin_try R x mark) (λ site. bind body (λ v. bind (end_body R x site) (λ past. bind (begin_catch R x) (λ d. bind branch (λ w. end_catch d v w past))))) s
+    ≡ bind (begin_try R x mark) (λ site. bind body (λ v. bind (end_body R x site) (λ past. bind (begin_catch R x) (λ d. bind branch (λ w. end_caught d v w past))))) s
 try-parts R x mark body branch s =
     step (name_any R x s) _ _ _ (λ n a. step (emit_at (PushHandler unset n) mark a) _ _ _ (λ site b. step (set_handlers suc b) _ _ _ (λ _ c. under (body c) _ _ (λ v d.
     step (may_catch R x d) _ _ _ (λ _ f. step (emit PopHandler f) _ _ _ (λ _ g. step (set_handlers pred g) _ _ _ (λ _ h. step (emit (Jump unset) h) _ _ _ (λ past i. step (patch_here site i) _ _ _ (λ _ j. step (set_handlers suc j) _ _ _ (λ _ k.

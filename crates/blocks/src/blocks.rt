@@ -16,9 +16,9 @@ use code::{Lowered, Op};
 use lowering::{Breaks, Level, Lowering, Names, Operators, Rows, Slots, depth, unwind_to};
 use records::{Kind, NEGATED, Refusal, Script};
 use scan::has_break_value;
-use statements_next::{
-    begin_catch, begin_do, begin_if, begin_round, begin_try, begin_while, emit_if_value, end_body,
-    end_catch, end_do, end_for, end_then, end_while, loop_variable, meet, open_iterator, plain,
+use statements::{
+    begin_catch, begin_do, begin_if, begin_for, begin_try, begin_while, emit_if_value, end_body,
+    end_caught, end_do, end_round, end_then, end_while, loop_variable, meet, open_iterator, plain,
 };
 
 // Only the script's own block keeps the scope.
@@ -301,7 +301,7 @@ fn for_loop(
     let outside = depth(slots);
     open_iterator(c, rows, slots, node.expr, expr.start)?;
     loop_variable(c, names, slots, script, node.label)?;
-    let round = begin_round(c, slots, expr.at, node.mark, outside, valued)?;
+    let round = begin_for(c, slots, expr.at, node.mark, outside, valued)?;
     let body = block(
         c,
         rows,
@@ -314,7 +314,7 @@ fn for_loop(
         i + 1,
         mid,
     )?;
-    end_for(c, slots, breaks, round, outside, body, valued)
+    end_round(c, slots, breaks, round, outside, body, valued)
 }
 
 // `try`: the body under a handler, and the catch block.
@@ -357,5 +357,5 @@ fn try_catch(
     let caught = block(
         c, rows, names, operators, slots, breaks, level, script, mid, end,
     )?;
-    end_catch(c, slots, outside, body, caught, past)
+    end_caught(c, slots, outside, body, caught, past)
 }

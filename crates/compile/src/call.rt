@@ -6,7 +6,7 @@ ghost use Rattle.records.specs.Accepts.{Sound, tree_of};
 ghost use Rattle.meaning.specs.Lower.{program as program_m, lowering};
 ghost use Rattle.tables.specs.Stacks.{SameLent};
 ghost use Rattle.lowering.specs.View.{Lent, most, most_slots, rows_of, names_of, opers_of, slots_of, breaks_of, level_of};
-ghost use Rattle.statements_next.specs.Parts.{Did};
+ghost use Rattle.statements.specs.Parts.{Did};
 ghost use Rattle.compile.specs.Call.{LoweredBy, Worked, WorkedOut, rooms_of};
 
 use crate::counts::Counts;
@@ -15,7 +15,7 @@ use blocks::statements;
 use code::{AssignOp, Instr, Loop, Lowered, Op, Row};
 use lowering::{Breaks, Level, Lowering, MOST, Names, Operators, Rows, Slots};
 use records::{Position, Refusal, Script, check};
-use statements_next::leaves_value;
+use statements::leaves_value;
 use tables::Stack;
 
 // A whole script: its statements with no unwinding, a value, and `Return`.

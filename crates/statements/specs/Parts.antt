@@ -1,19 +1,20 @@
 -- Parts of statements, and rules that were followed by code that touches more than one memory.
-use Rattle.std.specs.Prelude.{◌≡◌, ℕ, suc, pred, Bool, true, false, List, None, Option, Result}
+use Rattle.std.specs.Prelude.{◌≡◌, ℕ, suc, pred, Bool, true, false, ◌||◌, List, None, Option, Result}
 use Rattle.records.specs.declared.types.Position.{Position}
 use Rattle.records.specs.declared.refusals.Refusal.{Refusal}
-use Rattle.records.specs.Tree.{Records, Name}
+use Rattle.records.specs.Tree.{Records, Name, Exp}
 use Rattle.code.specs.declared.ops.Row.{Row}
 use Rattle.code.specs.declared.ops.AssignOp.{AssignOp}
-use Rattle.code.specs.declared.ops.Op.TheVariants.{Unit as UnitOp, DeclareLocal, Jump, UnwindTo, Tick, PushHandler, PopHandler, IterInit, IterNext, StoreShared}
+use Rattle.code.specs.declared.ops.Op.TheVariants.{Unit as UnitOp, DeclareLocal, Pop, Jump, JumpIfFalse, UnwindTo, Tick, PushHandler, PopHandler, IterInit, IterNext, StoreShared}
 use Rattle.code.specs.declared.shapes.Lowered.{Lowered}
 use Rattle.meaning.specs.LowerState.{Pile, Level, M, ret, bind, emit_at, emit, here, patch_here, depth, may_declare, declare, drop_slots, set_iters, set_handlers, enter_loop, leave_loop}
-use Rattle.meaning.specs.Lower.{unset, emit_if, leaves, residual, unwind_to, exit_loop, name_number, name_any, may_catch, declare_any}
+use Rattle.meaning.specs.Lower.{unset, emit_if, leaves, residual, unwind_to, jump_if, patch_if, round_test, exit_loop, name_number, name_any, testing, may_catch, declare_any}
 use Rattle.lowering.specs.declared.state.Lowering.{Lowering}
 use Rattle.lowering.specs.View.{st, low, outcome}
 use Rattle.code.specs.declared.ops.Instr.{Instr}
 use Rattle.code.specs.declared.shapes.Loop.{Loop}
 use Rattle.statements.specs.declared.loops.Round.{Round}
+use Rattle.statements.specs.declared.loops.TestedRound.{TestedRound}
 
 -- ## A rule was followed
 
@@ -54,6 +55,45 @@ AddedBoth m n o r n' o' =
     (code : Pile Instr) (loops : List Loop) (iters handlers limit deepest : ℕ) (rows : Pile Row) (slots breaks : Pile ℕ) (block : Level)
     → m (low code loops iters handlers limit deepest rows n o slots breaks block) ≡ outcome r (low code loops iters handlers limit deepest rows n' o' slots breaks block)
 
+-- ## An `if`
+
+-- The condition, worked out and tested at a position.
+abbrev pub begin_if : ℕ → Position → M ℕ
+begin_if e at = bind (residual 1 e) (λ _. emit_at (JumpIfFalse unset) at)
+
+-- The body's end: a jump past the branch, where something is to be passed.
+abbrev pub end_then : Bool → Lowered → ℕ → M (Option ℕ)
+end_then has v to_else = bind (jump_if (has || leaves v)) (λ past. bind (patch_here to_else) (λ _. ret past))
+
+-- ## A `while`
+
+abbrev pub begin_while : Records → Exp → Position → Bool → M TestedRound
+begin_while R e mark hasv =
+    bind (emit_at Tick mark) (λ _.
+    bind here (λ top.
+    bind (testing R e) (λ exit.
+    bind depth (λ d.
+    bind (enter_loop top d false hasv) (λ _. ret (record { top = top; exit = exit }))))))
+
+abbrev pub end_while : TestedRound → Lowered → Bool → M Lowered
+end_while r v hasv =
+    bind (emit_if (leaves v) Pop) (λ _.
+    bind (emit (Jump r.top)) (λ _.
+    bind leave_loop (λ count.
+    bind (patch_if r.exit) (λ _. exit_loop count hasv))))
+
+-- ## A `do`
+
+abbrev pub begin_do : Position → Bool → M ℕ
+begin_do mark hasv = bind (emit_at Tick mark) (λ _. bind here (λ top. bind depth (λ d. bind (enter_loop top d false hasv) (λ _. ret top))))
+
+abbrev pub end_do : ℕ → Lowered → Bool → ℕ → Position → Bool → M Lowered
+end_do top v until e at hasv =
+    bind (emit_if (leaves v) Pop) (λ _.
+    bind leave_loop (λ count.
+    bind (residual 1 e) (λ _.
+    bind (round_test until at top) (λ _. exit_loop count hasv))))
+
 -- ## A `for`
 
 -- Its iterator, made of an expression that starts at a position, and the slot limit.
@@ -83,6 +123,10 @@ end_for r outside hasv =
     bind (emit (UnwindTo outside)) (λ _.
     bind (drop_slots outside) (λ _. exit_loop count hasv))))))
 
+-- The end after a body: what it left goes first.
+abbrev pub end_round : Round → ℕ → Lowered → Bool → M Lowered
+end_round r outside v hasv = bind (emit_if (leaves v) Pop) (λ _. end_for r outside hasv)
+
 -- ## A `try`
 
 abbrev pub begin_try : Records → Option Name → Position → M ℕ
@@ -109,3 +153,7 @@ end_catch d v past =
     bind (set_handlers pred) (λ _.
     bind (emit_if (leaves v) UnitOp) (λ _.
     bind (patch_here past) (λ _. ret v)))))
+
+-- The end after a catch block: what that left goes first.
+abbrev pub end_caught : ℕ → Lowered → Lowered → ℕ → M Lowered
+end_caught d v w past = bind (emit_if (leaves w) Pop) (λ _. end_catch d v past)

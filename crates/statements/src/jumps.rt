@@ -2,9 +2,10 @@
 
 ghost use Rattle.std.specs.Prelude.{◌≡◌, ℕ, ◌<◌, ◌||◌, length, ◌==◌};
 ghost use Rattle.records.specs.Tree.{records, exp_of};
-ghost use Rattle.meaning.specs.Lower.{leaves, jump_if, meet as meet_m, round_test, testing as testing_m};
+ghost use Rattle.meaning.specs.Lower.{emit_if, leaves, jump_if, meet as meet_m, round_test, testing as testing_m};
 ghost use Rattle.tables.specs.Stacks.{SameLent};
 ghost use Rattle.lowering.specs.View.{DidC, DidR, Lent, most, rows_of};
+ghost use Rattle.statements.specs.Parts.{begin_if, end_then};
 
 use code::{Lowered, Op};
 use lowering::{Lowering, Rows, residual};
@@ -20,6 +21,27 @@ pub fn leaves_value(lowered: Lowered) -> bool
     }
 }
 
+// An operation, if a statement left a value.
+pub fn emit_if_value(c: &mut Lowering, lowered: Lowered, op: Op) -> Result<(), Refusal>
+    ensures lent { Lent c.old c.new }
+    ensures did { DidC (emit_if (leaves lowered) op) c.old result c.new }
+{
+    match lowered {
+        Lowered::Value => {
+            let _ = c.emit(op)?;
+        }
+        Lowered::Empty => {}
+    }
+    Ok(())
+}
+
+// Is something to be passed: a branch, or the unit that it wants beside a value?
+fn passes(has_branch: bool, then: Lowered) -> bool
+    ensures { result ≡ (has_branch || leaves then) }
+{
+    has_branch || leaves_value(then)
+}
+
 // A jump past the branch, where something is to be passed.
 pub fn jump_if(c: &mut Lowering, wanted: bool) -> Result<Option<u32>, Refusal>
     ensures lent { Lent c.old c.new }
@@ -30,6 +52,38 @@ pub fn jump_if(c: &mut Lowering, wanted: bool) -> Result<Option<u32>, Refusal>
         return Ok(Some(site));
     }
     Ok(None)
+}
+
+// A jump past the branch after a body, where something is to be passed.
+pub fn jump_past(c: &mut Lowering, has_branch: bool, then: Lowered) -> Result<Option<u32>, Refusal>
+    ensures lent { Lent c.old c.new }
+    ensures did { DidC (jump_if (has_branch || leaves then)) c.old result c.new }
+{
+    jump_if(c, passes(has_branch, then))
+}
+
+// The condition of an `if`, worked out and tested at its position; the place of the jump to the branch is answered.
+pub fn begin_if(c: &mut Lowering, rows: &mut Rows, expr: u32, at: Position) -> Result<u32, Refusal>
+    ensures lent { (Lent c.old c.new) × (SameLent most rows.old rows.new) }
+    ensures did { DidR (begin_if expr at) c.old (rows_of rows.old) result c.new (rows_of rows.new) }
+{
+    residual(c, rows, 1, expr)?;
+    c.emit_at(Op::JumpIfFalse { target: u32::MAX }, at)
+}
+
+// The end of an `if`'s body, after which its branch begins; the place of the jump past it is answered.
+pub fn end_then(
+    c: &mut Lowering,
+    has_branch: bool,
+    then: Lowered,
+    to_else: u32,
+) -> Result<Option<u32>, Refusal>
+    ensures lent { Lent c.old c.new }
+    ensures did { DidC (end_then has_branch then to_else) c.old result c.new }
+{
+    let past = jump_past(c, has_branch, then)?;
+    c.patch_here(to_else);
+    Ok(past)
 }
 
 // Both ways of an `if` come to the same height.

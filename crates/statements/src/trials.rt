@@ -5,9 +5,9 @@ ghost use Rattle.records.specs.Tree.{Records, records, if_any, name_of};
 ghost use Rattle.meaning.specs.Lower.{name_any, may_catch, declare_any};
 ghost use Rattle.tables.specs.Stacks.{SameLent};
 ghost use Rattle.lowering.specs.View.{AddedName, DidS, Lent, most, most_slots, names_of, slots_of};
-ghost use Rattle.statements.specs.Parts.{DidN, begin_try, end_body, begin_catch, end_catch};
+ghost use Rattle.statements.specs.Parts.{DidN, begin_try, end_body, begin_catch, end_catch, end_caught};
 
-use crate::jumps::leaves_value;
+use crate::jumps::{emit_if_value, leaves_value};
 use code::{Lowered, Op};
 use lowering::{Lowering, Names, Slots, declare, depth, may_declare, push_name, unwind_to};
 use records::{Position, Refusal, Script};
@@ -109,4 +109,20 @@ pub fn end_catch(
     c.emit_if(leaves_value(body), Op::Unit)?;
     c.patch_here(past);
     Ok(body)
+}
+
+// The end of a `try` after its catch block: what that left goes first.
+pub fn end_caught(
+    c: &mut Lowering,
+    slots: &mut Slots,
+    outside: u16,
+    body: Lowered,
+    caught: Lowered,
+    past: u32,
+) -> Result<Lowered, Refusal>
+    ensures lent { (Lent c.old c.new) × (SameLent most_slots slots.old slots.new) }
+    ensures did { DidS (end_caught outside body caught past) c.old (slots_of slots.old) result c.new (slots_of slots.new) }
+{
+    emit_if_value(c, caught, Op::Pop)?;
+    end_catch(c, slots, outside, body, past)
 }

@@ -9,7 +9,7 @@ ghost use Rattle.meaning.specs.LowerState.{M as Rule};
 ghost use Rattle.meaning.specs.Lower.{lower_head};
 ghost use Rattle.tables.specs.Stacks.{SameLent};
 ghost use Rattle.lowering.specs.View.{Lent, most, most_slots, rows_of, names_of, opers_of, slots_of, breaks_of, level_of};
-ghost use Rattle.statements_next.specs.Parts.{Did};
+ghost use Rattle.statements.specs.Parts.{Did};
 
 use crate::leaves::{breaking, calling, continuing, returning, throwing};
 use crate::variables::{assigning, variable};
