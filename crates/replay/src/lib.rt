@@ -1,4 +1,5 @@
 // A whole replay: load, every call in turn with its reply, close.
+#![tactic(auto)]
 
 ghost use Rattle.std.specs.Prelude.{◌≡◌, min, map, length, take, drop, replicate};
 ghost use Rattle.meaning.specs.Calls.{after_calls, loaded, replies};

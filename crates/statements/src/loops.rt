@@ -1,4 +1,4 @@
-// Ends of loops, and the parts of a `for`.
+// Loops: the parts of a `for`, a `while` and a `do`, and how each ends.
 
 ghost use Rattle.std.specs.Prelude.{ℕ, ◌<◌, length};
 ghost use Rattle.records.specs.Tree.{records, name_of, exp_of};

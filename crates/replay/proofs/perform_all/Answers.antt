@@ -1,7 +1,4 @@
-use Rattle.std.proofs.Common.{◌≡◌, ℕ, ◌<◌, ◌≤◌, min, map, length, take, drop, sym, refl, ap, ◌∙◌, subst, arith, rules}
-use Rattle.meaning.specs.Calls.{after_calls, replies}
-use Rattle.player.specs.Replies.{call_of, reply_of}
-use Rattle.player.specs.States.{state}
+use Rattle.std.proofs.Common.{◌<◌, length, arith, rules}
 use Rattle.replay.proofs.Replays.{kept-kept, said_more, left-more, rest_more}
 use Rattle.replay.proofs.perform_all.Goals as goal
 

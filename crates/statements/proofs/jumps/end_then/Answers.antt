@@ -1,5 +1,5 @@
-use Rattle.std.proofs.Common.{◌≡◌, refl, ◌∙◌, rules}
-use Rattle.statements.proofs.Steps.{on, off}
+use Rattle.std.proofs.Common.{refl, ◌∙◌, rules}
+use Rattle.statements.proofs.Steps.{on}
 use Rattle.statements.proofs.jumps.end_then.Goals as goal
 
 pub returns : goal.returns

@@ -1,5 +1,5 @@
-use Rattle.std.proofs.Common.{◌≡◌, ◌∙◌, rules}
-use Rattle.lowering.specs.View.{rows_of, names_of, opers_of, slots_of, breaks_of, level_of}
+use Rattle.std.proofs.Common.{◌∙◌, rules}
+use Rattle.lowering.specs.View.{rows_of, breaks_of}
 use Rattle.statements.proofs.Steps.{on, off}
 use Rattle.statements.proofs.loops.end_do.Goals as goal
 

@@ -1,4 +1,4 @@
-use Rattle.std.proofs.Common.{◌≡◌, ◌∙◌, rules}
+use Rattle.std.proofs.Common.{◌∙◌, rules}
 use Rattle.lowering.specs.View.{slots_of, breaks_of}
 use Rattle.statements.proofs.Steps.{on, off}
 use Rattle.statements.proofs.loops.end_round.Goals as goal
