@@ -9,7 +9,7 @@ use Rattle.code.specs.declared.shapes.Loop.{Loop}
 use Rattle.code.specs.declared.shapes.Lowered.{Lowered}
 use Rattle.code.specs.declared.shapes.Lowered.TheVariants.{Empty}
 use Rattle.meaning.specs.Agreement.{Heights}
-use Rattle.meaning.specs.Breaks.{is_some}
+use Rattle.std.specs.Prelude.{is_some}
 use Rattle.meaning.specs.LowerState.{Low, Pile, Out.ok, M, ret, bind, emit, pushed, with_code, with_rows, last_loop, innermost, add_break}
 use Rattle.meaning.specs.Lower.{unset, emits, giving_up, owned, bringing, breaking, continuing}
 use Rattle.meaning.specs.SetCode.{expr_of}

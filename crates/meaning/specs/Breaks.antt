@@ -1,10 +1,6 @@
 -- Which loops have a break value.
-use Rattle.std.specs.Prelude.{Bool, true, false, ◌||◌, Some, None, Option}
+use Rattle.std.specs.Prelude.{Bool, true, false, ◌||◌, Some, None, Option, is_some}
 use Rattle.records.specs.Tree.{Head, Head.noop, Head.var, Head.expr, Head.call, Head.assign, Head.other, Head.block, Head.try, Head.for, Head.if, Head.while, Head.do_loop, Head.break, Head.continue, Head.return, Head.throw, Tree.node, Forest.nil, Forest.more, Stmt, Block}
-
-abbrev pub is_some : {A : Type 0} → Option A → Bool
-is_some None = false
-is_some (Some x) = true
 
 -- Does a break with a value belong to the loop around? Not one inside another loop.
 abbrev pub breaks_head : Head → Bool → Bool → Bool
