@@ -14,6 +14,15 @@ import re
 TOKEN = re.compile(r"[A-Za-z_α-ωΑ-Ω₀-₉'][A-Za-z0-9_'₀-₉α-ωΑ-Ω-]*")
 STRING = re.compile(r'b?"(?:[^"\\]|\\.)*"')
 
+# Functions to `Bool` that were spelled as types, and the files that speak of them.
+FUNCTIONS = {"Plain": "is_plain", "Known": "is_known"}
+FUNCTION_FILES = {
+    "crates/meaning/specs/Writer.antt",
+    "crates/meaning/proofs/WritersLaw.antt",
+    "crates/records/proofs/Expressions.antt",
+    "crates/setting/proofs/Segments.antt",
+}
+
 # Lemmas whose names would fall together with the respelled name of the function that they speak of.
 LEMMAS = {"same_bytes": "same_bytes_lem"}
 LEMMA_FILES = {"crates/meaning/proofs/Found.antt"}
@@ -42,6 +51,12 @@ def outside_strings(text):
     return "".join(done + [names(text[last:])])
 
 
+def functions(path, text):
+    if path not in FUNCTION_FILES:
+        return text
+    return TOKEN.sub(lambda m: FUNCTIONS.get(m.group(), m.group()), text)
+
+
 def lemmas(path, text):
     if path not in LEMMA_FILES:
         return text
@@ -64,7 +79,7 @@ def main():
                 continue
             with open(path, encoding="utf-8") as f:
                 old = f.read()
-            text = users_of_lemmas(path, lemmas(path, old)) if ending == "antt" else old
+            text = users_of_lemmas(path, lemmas(path, functions(path, old))) if ending == "antt" else old
             text = outside_strings(text) if ending == "rt" else names(text)
             if text != old:
                 changed += 1

@@ -7,7 +7,7 @@ use Rattle.code.specs.declared.ops.Op.TheVariants.{Bool as BoolOp, Jump}
 use Rattle.code.specs.declared.ops.Instr.{Instr}
 use Rattle.meaning.specs.Reading.{Bytes, Reading, Reading.unit, Reading.yes, Reading.opaque, Reading.no, Reading.name, Reading.all, Reading.any, Items, Items.end, Items.item}
 use Rattle.meaning.specs.Fed.{Tables, number_of}
-use Rattle.meaning.specs.Writer.{Plain, all_plain, Lawful}
+use Rattle.meaning.specs.Writer.{is_plain, all_plain, Lawful}
 use Rattle.meaning.specs.Writers.{is_record, plain, whole, name_reading, form_reading, items_from, written_reading, size, size_items, load, written, written_items, writer}
 use Rattle.meaning.proofs.Found.{number-found}
 use Rattle.meaning.proofs.WritersPlay.{Fine, FineItems, jump_on, length-written, written-plays}
@@ -21,10 +21,10 @@ module _ (T : Tables) (exprs len : ℕ) where
   plain-both : (xs ys : List Instr) → AllPlain xs → AllPlain ys → AllPlain (xs ++ ys)
   plain-both [] ys h k = k
   plain-both (x ∷ xs) ys h k =
-      let p = and_parts (Plain (length T.names) exprs len x.op) (all_plain (length T.names) exprs len xs) h in
-      and_from (Plain (length T.names) exprs len x.op) (all_plain (length T.names) exprs len (xs ++ ys)) p.0 (plain-both xs ys p.1 k)
+      let p = and_parts (is_plain (length T.names) exprs len x.op) (all_plain (length T.names) exprs len xs) h in
+      and_from (is_plain (length T.names) exprs len x.op) (all_plain (length T.names) exprs len (xs ++ ys)) p.0 (plain-both xs ys p.1 k)
 
-  plain-jump : (on : Bool) (t : ℕ) → t ≤ len → Plain (length T.names) exprs len (jump_on on t) ≡ true
+  plain-jump : (on : Bool) (t : ℕ) → t ≤ len → is_plain (length T.names) exprs len (jump_on on t) ≡ true
   plain-jump true t h = le-leb t len h
   plain-jump false t h = le-leb t len h
 
@@ -56,7 +56,7 @@ module _ (T : Tables) (exprs len : ℕ) where
     plain-items end on t d z k h = refl
     plain-items (item p r is) on t d z k h =
         plain-both (written T r d) (record { op = jump_on on t; at = p } ∷ written_items T is (jump_on on) t (suc (size r + d))) (plain-written r d z.0 (omega arith))
-        (and_from (Plain (length T.names) exprs len (jump_on on t)) (all_plain (length T.names) exprs len (written_items T is (jump_on on) t (suc (size r + d)))) (plain-jump on t k) (plain-items is on t (suc (size r + d)) z.1 k (omega arith)))
+        (and_from (is_plain (length T.names) exprs len (jump_on on t)) (all_plain (length T.names) exprs len (written_items T is (jump_on on) t (suc (size r + d)))) (plain-jump on t k) (plain-items is on t (suc (size r + d)) z.1 k (omega arith)))
 
 -- ## Readings of records are fine
 

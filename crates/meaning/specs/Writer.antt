@@ -61,37 +61,37 @@ Holds code from a [] = Unit {0}
 Holds code from a (x ∷ xs) = (instr_at code a ≡ shift from x) × Holds code from (suc a) xs
 
 -- The operations that a segment may use: targets at most its length, names of the table, expressions that are records.
-abbrev pub Plain : ℕ → ℕ → ℕ → Op → Bool
-Plain names exprs len UnitOp = true
-Plain names exprs len (BoolOp b) = true
-Plain names exprs len (StoreLocal i k) = false
-Plain names exprs len (LoadNamed x) = nat_lt x names
-Plain names exprs len (AssignNamed x o) = false
-Plain names exprs len (AssignLocal i x o) = false
-Plain names exprs len (DeclareLocal x k g) = false
-Plain names exprs len Pop = true
-Plain names exprs len (Jump t) = nat_le t len
-Plain names exprs len (JumpIfTrue t) = nat_le t len
-Plain names exprs len (JumpIfFalse t) = nat_le t len
-Plain names exprs len (Rotate n) = false
-Plain names exprs len (UnwindTo n) = false
-Plain names exprs len Tick = false
-Plain names exprs len Checkpoint = false
-Plain names exprs len (EvalAst r w) = false
-Plain names exprs len (PushHandler t x) = false
-Plain names exprs len PopHandler = false
-Plain names exprs len IterInit = false
-Plain names exprs len (IterNext t c) = false
-Plain names exprs len IterDrop = false
-Plain names exprs len (StoreShared i) = false
-Plain names exprs len Throw = false
-Plain names exprs len Return = false
-Plain names exprs len (EvalExpr e) = nat_lt 0 e && nat_lt e exprs
-Plain names exprs len (Foreign n) = false
+abbrev pub is_plain : ℕ → ℕ → ℕ → Op → Bool
+is_plain names exprs len UnitOp = true
+is_plain names exprs len (BoolOp b) = true
+is_plain names exprs len (StoreLocal i k) = false
+is_plain names exprs len (LoadNamed x) = nat_lt x names
+is_plain names exprs len (AssignNamed x o) = false
+is_plain names exprs len (AssignLocal i x o) = false
+is_plain names exprs len (DeclareLocal x k g) = false
+is_plain names exprs len Pop = true
+is_plain names exprs len (Jump t) = nat_le t len
+is_plain names exprs len (JumpIfTrue t) = nat_le t len
+is_plain names exprs len (JumpIfFalse t) = nat_le t len
+is_plain names exprs len (Rotate n) = false
+is_plain names exprs len (UnwindTo n) = false
+is_plain names exprs len Tick = false
+is_plain names exprs len Checkpoint = false
+is_plain names exprs len (EvalAst r w) = false
+is_plain names exprs len (PushHandler t x) = false
+is_plain names exprs len PopHandler = false
+is_plain names exprs len IterInit = false
+is_plain names exprs len (IterNext t c) = false
+is_plain names exprs len IterDrop = false
+is_plain names exprs len (StoreShared i) = false
+is_plain names exprs len Throw = false
+is_plain names exprs len Return = false
+is_plain names exprs len (EvalExpr e) = nat_lt 0 e && nat_lt e exprs
+is_plain names exprs len (Foreign n) = false
 
 abbrev pub all_plain : ℕ → ℕ → ℕ → List Instr → Bool
 all_plain names exprs len [] = true
-all_plain names exprs len (x ∷ xs) = Plain names exprs len x.op && all_plain names exprs len xs
+all_plain names exprs len (x ∷ xs) = is_plain names exprs len x.op && all_plain names exprs len xs
 
 -- ## Playing a segment
 

@@ -37,8 +37,8 @@ module _ (R : Records) where
   tiles-none zero a b e = eq-eqb a b e
   tiles-none (suc k) a b e = rw (eq-eqb a b e) refl
 
-  abbrev Known : Maybe Form → ℕ → Bool
-  Known m i =
+  abbrev is_known : Maybe Form → ℕ → Bool
+  is_known m i =
       known m (λ f. form_law f R (expr_at R i) i
       && (not (is_list f) || (leb (expr_at R i).end (length R.exprs) && tiles R ((expr_at R i).end - (i + 1)) (i + 1) (expr_at R i).end)))
 
@@ -49,7 +49,7 @@ module _ (R : Records) where
       listed true e h = h
       listed false e h = absurd (both_ways false refl e)
 
-      go : (m : Maybe Form) → form_of (expr_at R i).form ≡ m → Known m i ≡ true → Fine i
+      go : (m : Maybe Form) → form_of (expr_at R i).form ≡ m → is_known m i ≡ true → Fine i
       go None q w = absurd (both_ways false refl w)
       go (Some f) q w =
           let p = and_both {x = form_law f R (expr_at R i) i} w in
@@ -71,7 +71,7 @@ module _ (R : Records) where
       listed true h = h
       listed false h = refl
 
-      go : (m : Maybe Form) → known m (λ f. form_law f R (expr_at R i) i) ≡ true → Known m i ≡ true
+      go : (m : Maybe Form) → known m (λ f. form_law f R (expr_at R i) i) ≡ true → is_known m i ≡ true
       go None w = absurd (both_ways false refl w)
       go (Some f) w = both-and w (listed (is_list f) (both-and (le-leb _ _ x.within) x.items))
 

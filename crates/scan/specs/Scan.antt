@@ -6,6 +6,7 @@ use Rattle.records.specs.declared.types.Node.{Node}
 use Rattle.records.specs.Meanings.{kind_of, known}
 use Rattle.records.specs.Tree.{flagged}
 
+-- The kinds that are loops.
 abbrev pub is_loop : Kind → Bool
 is_loop Noop = false
 is_loop Var = false
@@ -21,6 +22,7 @@ is_loop Do = true
 is_loop BreakLoop = false
 is_loop Return = false
 
+-- The kind of `break` and `continue`, which a flag tells apart.
 abbrev pub is_break : Kind → Bool
 is_break Noop = false
 is_break Var = false

@@ -11,7 +11,7 @@ use Rattle.code.specs.declared.ops.Op.{Op}
 use Rattle.code.specs.declared.ops.Op.TheVariants.{Unit as UnitOp, Bool as BoolOp, StoreLocal, LoadNamed, AssignNamed, AssignLocal, DeclareLocal, Pop, Jump, JumpIfTrue, JumpIfFalse, Rotate, UnwindTo, Tick, Checkpoint, EvalAst, PushHandler, PopHandler, IterInit, IterNext, IterDrop, StoreShared, Throw, Return, EvalExpr, Foreign}
 use Rattle.code.specs.declared.ops.Instr.{Instr}
 use Rattle.meaning.specs.Fed.{Tables}
-use Rattle.meaning.specs.Writer.{Writer, Lawful, Plain, all_plain, shift}
+use Rattle.meaning.specs.Writer.{Writer, Lawful, is_plain, all_plain, shift}
 use Rattle.meaning.specs.SetCode.{target_of, target_fine, targets_fine, shift_all, write_fault}
 use Rattle.writers.specs.Write.{replied, filled}
 use Rattle.setting.specs.Set.{SegmentPut, blank}
@@ -25,7 +25,7 @@ module _ (names exprs len : ℕ) (short : len ≤ 64) where
   none-such : {A : Type 0} → false ≡ true → A
   none-such e = absurd (both_ways false refl e)
 
-  plain-near : (o : Op) → Plain names exprs len o ≡ true → target_fine 65 (target_of o) ≡ true
+  plain-near : (o : Op) → is_plain names exprs len o ≡ true → target_fine 65 (target_of o) ≡ true
   plain-near UnitOp h = refl
   plain-near (BoolOp b) h = refl
   plain-near (StoreLocal i k) h = refl
@@ -56,7 +56,7 @@ module _ (names exprs len : ℕ) (short : len ≤ 64) where
   all_near : (xs : List Instr) → all_plain names exprs len xs ≡ true → targets_fine 65 xs ≡ true
   all_near [] h = refl
   all_near (x ∷ xs) h =
-      let p = and_parts (Plain names exprs len x.op) (all_plain names exprs len xs) h in
+      let p = and_parts (is_plain names exprs len x.op) (all_plain names exprs len xs) h in
       and_from (target_fine 65 (target_of x.op)) (targets_fine 65 xs) (plain-near x.op p.0) (all_near xs p.1)
 
 pub segment-near : (T : Tables) (exprs : ℕ) (W : Writer) (e : ℕ) → Lawful T exprs W → W.known e ≡ true → targets_fine 65 (W.segment e) ≡ true

@@ -67,6 +67,7 @@ end_then has v to_else = bind (jump_if (has || leaves v)) (λ past. bind (patch_
 
 -- ## A `while`
 
+-- It begins: a mark, its test, and its loop's record.
 abbrev pub begin_while : Records → Exp → Position → Bool → M TestedRound
 begin_while R e mark hasv =
     bind (emit_at Tick mark) (λ _.
@@ -75,6 +76,7 @@ begin_while R e mark hasv =
     bind depth (λ d.
     bind (enter_loop top d false hasv) (λ _. ret (record { top = top; exit = exit }))))))
 
+-- It ends: what the body left goes first; then back to the test, and the jump out of it lands here.
 abbrev pub end_while : TestedRound → Lowered → Bool → M Lowered
 end_while r v hasv =
     bind (emit_if (leaves v) Pop) (λ _.
@@ -84,9 +86,11 @@ end_while r v hasv =
 
 -- ## A `do`
 
+-- It begins: a mark, and its loop's record. The top is answered.
 abbrev pub begin_do : Position → Bool → M ℕ
 begin_do mark hasv = bind (emit_at Tick mark) (λ _. bind here (λ top. bind depth (λ d. bind (enter_loop top d false hasv) (λ _. ret top))))
 
+-- It ends: what the body left goes first; then the condition, and its test.
 abbrev pub end_do : ℕ → Lowered → Bool → ℕ → Position → Bool → M Lowered
 end_do top v until e at hasv =
     bind (emit_if (leaves v) Pop) (λ _.

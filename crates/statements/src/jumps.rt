@@ -26,13 +26,7 @@ pub fn emit_if_value(c: &mut Lowering, lowered: Lowered, op: Op) -> Result<(), R
     ensures lent { Lent c.old c.new }
     ensures did { DidC (emit_if (leaves lowered) op) c.old result c.new }
 {
-    match lowered {
-        Lowered::Value => {
-            let _ = c.emit(op)?;
-        }
-        Lowered::Empty => {}
-    }
-    Ok(())
+    c.emit_if(leaves_value(lowered), op)
 }
 
 // Is something to be passed: a branch, or the unit that it wants beside a value?
@@ -55,7 +49,7 @@ pub fn jump_if(c: &mut Lowering, wanted: bool) -> Result<Option<u32>, Refusal>
 }
 
 // A jump past the branch after a body, where something is to be passed.
-pub fn jump_past(c: &mut Lowering, has_branch: bool, then: Lowered) -> Result<Option<u32>, Refusal>
+fn jump_past(c: &mut Lowering, has_branch: bool, then: Lowered) -> Result<Option<u32>, Refusal>
     ensures lent { Lent c.old c.new }
     ensures did { DidC (jump_if (has_branch || leaves then)) c.old result c.new }
 {

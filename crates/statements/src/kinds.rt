@@ -45,6 +45,7 @@ pub fn plain(
         }
         Kind::FnCall => calling(c, rows, script, node.label, i as u32),
         Kind::Assignment => {
+            // a plain variable; any other target is left to the whole statement
             if node.target == 1 {
                 return assigning(c, rows, names, operators, slots, script, node);
             }

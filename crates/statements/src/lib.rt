@@ -8,7 +8,7 @@ mod trials;
 mod variables;
 
 pub use jumps::{
-    begin_if, emit_if_value, end_then, jump_if, jump_past, leaves_value, meet, round_test, testing,
+    begin_if, emit_if_value, end_then, jump_if, leaves_value, meet, round_test, testing,
 };
 pub use kinds::plain;
 pub use leaves::{breaking, calling, continuing, returning, throwing};
