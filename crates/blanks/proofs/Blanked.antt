@@ -1,20 +1,16 @@
 -- Elements that are blank from a place on.
-use Rattle.std.proofs.Common.{◌≡◌, ℕ, ◌+◌, ◌-◌, ◌<◌, ◌≤◌, ◌≢◌, List, ◌++◌, length, get_or, take, set, replicate, sym, ◌∙◌, inl, inr, arith, get_or-set_other, get_or-set_same, below_more}
+use Rattle.std.proofs.Common.{◌≡◌, ℕ, ◌+◌, ◌-◌, ◌<◌, ◌≤◌, ◌≢◌, List, ◌++◌, length, get_or, take, set, replicate, sym, refl, ◌∙◌, inl, inr, arith, get_or-set_other, get_or-set_same, below_more}
 use Rattle.std.proofs.lemmas.List.{length-append, length-take-le, length-replicate, get_or_append_left, get_or-append_right, get_or-take, get_or-replicate, ext_get_or}
 use Rattle.std.proofs.lemmas.Bool.{cases_lt}
 
 -- ## A loop that blanks
 
-module _ {X : Type 0} (xs : List X) (b : X) (from i : ℕ) where
-  pub past_more : i < length xs → ((k : ℕ) → from ≤ k → k < i → get_or xs k b ≡ b) → (k : ℕ) → from ≤ k → k < i + 1 → get_or (set xs i b) k b ≡ b
-  past_more h below k f l =
-      below_more (λ j. from ≤ j → get_or (set xs i b) j b ≡ b) i
-      (λ j lt fj. let ne : j ≢ i = omega arith in rw get_or-set_other (below j fj lt))
-      (λ _. rw get_or-set_same)
-      k l f
-
-  pub before_more : (ys : List X) → from ≤ i → ((k : ℕ) → k < from → get_or xs k b ≡ get_or ys k b) → (k : ℕ) → k < from → get_or (set xs i b) k b ≡ get_or ys k b
-  before_more ys h below k lt = let ne : k ≢ i = omega arith in rw get_or-set_other (below k lt)
+pub blank_more : {X : Type 0} (xs : List X) (b : X) (i : ℕ) → i < length xs → ((k : ℕ) → k < i → get_or xs k b ≡ b) → (k : ℕ) → k < i + 1 → get_or (set xs i b) k b ≡ b
+blank_more xs b i h below k l =
+    below_more (λ j. get_or (set xs i b) j b ≡ b) i
+    (λ j lt. let ne : j ≢ i = omega arith in rw get_or-set_other (below j lt))
+    (rw get_or-set_same refl)
+    k l
 
 -- ## What is blank from a place on, as a list
 

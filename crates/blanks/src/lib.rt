@@ -8,7 +8,9 @@ pub fn blank_from<T: Copy>(items: &mut [T], from: usize, blank: T)
     ensures past { (k : ℕ) → from ≤ k → k < length items.new → slice_index_or items.new k blank ≡ blank }
     ensures before { (k : ℕ) → k < from → slice_index_or items.new k blank ≡ slice_index_or items.old k blank }
 {
-    for i in from..items.len() {
-        items[i] = blank;
+    let from = from.min(items.len());
+    // no `fill`: it asks a clone that cannot fail, which no bound of `T` promises
+    for item in items[from..].iter_mut() {
+        *item = blank;
     }
 }

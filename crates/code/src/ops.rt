@@ -1,8 +1,11 @@
+ghost use Rattle.std.specs.Prelude.{◌≡◌};
+ghost use Rattle.records.specs.Tree.{nowhere};
+
 use records::Position;
 
 // What a compiled script is made of. Names, operands and their order are the original's; `EvalExpr` is added, and
 // `Foreign` stands for each operation of the original, by its number, that takes no part here.
-#[derive(Clone, Copy)]
+#[derive(Clone, Copy, Debug, PartialEq, Eq)]
 pub enum Op {
     // pushes unit
     Unit,
@@ -72,21 +75,33 @@ pub enum Op {
 }
 
 // An operation with its position.
-#[derive(Clone, Copy)]
+#[derive(Clone, Copy, Debug, PartialEq, Eq)]
 pub struct Instr {
     pub op: Op,
     pub at: Position,
 }
 
+impl Instr {
+    // An operation without a position.
+    pub fn bare(op: Op) -> Self
+        ensures { result ≡ record { op = op; at = nowhere } }
+    {
+        Instr {
+            op,
+            at: Position::NONE,
+        }
+    }
+}
+
 // A residual row: an expression (kind 1) or the node of a whole statement (kind 2), by its number.
-#[derive(Clone, Copy)]
+#[derive(Clone, Copy, Debug, PartialEq, Eq)]
 pub struct Row {
     pub kind: u32,
     pub number: u32,
 }
 
 // An operator row: `op=` and `op`, each a token with the place of its name in the name table.
-#[derive(Clone, Copy)]
+#[derive(Clone, Copy, Debug, PartialEq, Eq)]
 pub struct AssignOp {
     pub op_assign: u16,
     pub op_assign_name: u32,

@@ -1,7 +1,7 @@
 // What lowering keeps while it works.
 
 // A loop that is being lowered.
-#[derive(Clone, Copy)]
+#[derive(Clone, Copy, Debug, PartialEq, Eq)]
 pub struct Loop {
     // where a `continue` goes
     pub continue_target: u32,
@@ -20,8 +20,8 @@ pub struct Loop {
     pub has_break_value: bool,
 }
 
-// What lowering a statement left on the operand stack.
-#[derive(Clone, Copy)]
+// What lowering a statement left on the operand stack. (By a rule of the project the original's types keep their shapes.)
+#[derive(Clone, Copy, Debug, PartialEq, Eq)]
 pub enum Lowered {
     // one value
     Value,

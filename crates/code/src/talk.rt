@@ -1,8 +1,7 @@
-// What a player asks, and what it is answered. Handles are 64 bits: 0 unit, 1 false, 2 true, 3 not a truth value,
-// 4 constant assigned; the others are the caller's.
+// What a player asks, and what it is answered.
 use records::Position;
 
-#[derive(Clone, Copy)]
+#[derive(Clone, Copy, Debug, PartialEq, Eq)]
 pub enum Question {
     // 1: the value of an expression
     Expression(u32),
@@ -28,22 +27,22 @@ pub enum Question {
     Next(u64),
 }
 
-#[derive(Clone, Copy)]
+#[derive(Clone, Copy, Debug, PartialEq, Eq)]
 pub enum Answer {
     Value(u64),
     Done,
     Fault { handle: u64, at: Position },
 }
 
-// How a script ends.
-#[derive(Clone, Copy)]
+// How a script ends. (Not a Result: a fault is a lawful end, which `?` would hand on as a failure.)
+#[derive(Clone, Copy, Debug, PartialEq, Eq)]
 pub enum End {
     Value(u64),
     Fault { handle: u64, at: Position },
 }
 
 // What an answer is for.
-#[derive(Clone, Copy)]
+#[derive(Clone, Copy, Debug, PartialEq, Eq)]
 pub enum Purpose {
     // it is pushed
     Push,
@@ -58,7 +57,7 @@ pub enum Purpose {
 }
 
 // A live variable of the player.
-#[derive(Clone, Copy)]
+#[derive(Clone, Copy, Debug, Default, PartialEq, Eq)]
 pub struct Slot {
     pub name: u32,
     pub handle: u64,
@@ -67,7 +66,7 @@ pub struct Slot {
 
 // A `try` that the player is inside of: armed in its body, not armed in its catch block; where to go, the catch
 // name, and the heights to go back to.
-#[derive(Clone, Copy)]
+#[derive(Clone, Copy, Debug, Default, PartialEq, Eq)]
 pub struct Handler {
     pub armed: bool,
     pub target: u32,

@@ -1,7 +1,9 @@
 -- Pieces of what is printed: each says what it makes of the bytes before it.
-use Rattle.std.specs.Prelude.{ℕ, ◌+◌, ◌/◌, ◌%◌, Bool, true, cond, ◌&&◌, List, [], ◌∷◌, ◌++◌, length, take, Some, None, codes, decimal, Option, nat_le, nat_lt}
-use Rattle.std.specs.List.{repeat}
+use Rattle.std.specs.Prelude.{ℕ, ◌+◌, ◌/◌, ◌%◌, Bool, cond, List, [], ◌∷◌, ◌++◌, length, take, Some, None, codes, decimal, Option, nat_lt}
+use Rattle.std.specs.Char.{is_ascii_graphic}
+use Rattle.std.specs.List.{list_all, repeat}
 use Rattle.records.specs.declared.types.Position.{Position}
+use Rattle.records.specs.Numbers.{position_text}
 
 abbrev pub newline : List ℕ
 newline = 10 ∷ []
@@ -12,7 +14,7 @@ numbered n out = out ++ decimal n
 
 -- Line and column.
 abbrev pub positioned : Position → List ℕ → List ℕ
-positioned p out = numbered p.column (numbered p.line out ++ codes ":")
+positioned p out = out ++ position_text p
 
 -- Two blanks for each level.
 abbrev pub indented : ℕ → List ℕ → List ℕ
@@ -22,8 +24,7 @@ indented depth out = out ++ repeat depth (codes "  ")
 
 -- Bytes that stand for themselves: visible ASCII.
 abbrev pub visible : List ℕ → Bool
-visible [] = true
-visible (b ∷ bs) = (nat_le 33 b && nat_le b 126) && visible bs
+visible bytes = list_all is_ascii_graphic bytes
 
 abbrev pub hex_digit_of : ℕ → ℕ
 hex_digit_of n = cond (nat_lt n 10) (48 + n) (87 + n)

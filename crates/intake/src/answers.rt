@@ -5,22 +5,19 @@ ghost use Rattle.notation.specs.Tables.{tables};
 ghost use Rattle.intake.specs.Answers.{refusal_text, verdict_text, Answers};
 
 use super::outline::outline;
-use super::texts::put_number;
 use notation::Draft;
 use records::{Refusal, Script, check};
 use std::alloc::AllocError;
 
+#[tactic(auto, unfolding(crate::specs::Answers::refusal_text))]
 fn put_refusal(out: &mut Vec<u8>, refusal: &Refusal) -> Result<(), AllocError>
     ensures { OnOk result (out.new.items ≡ refusal_text refusal.now out.old.items) }
 {
-    out.extend_from_slice(b"refused ")?;
-    put_number(out, refusal.number() as usize)?;
-    out.extend_from_slice(b" ")?;
-    out.extend_from_slice(refusal.words().as_bytes())?;
-    out.extend_from_slice(b"\n")?;
-    Ok(())
+    let line = format!(in *out.allocator(); "refused {} {refusal}\n", refusal.number())?;
+    out.extend_from_slice(line.as_bytes())
 }
 
+#[tactic(auto, unfolding(crate::specs::Answers::verdict_text))]
 fn put_verdict(
     out: &mut Vec<u8>,
     script: &Script,
@@ -51,6 +48,5 @@ pub fn answer(out: &mut Vec<u8>, draft: &Draft, wanted: bool) -> Result<(), Allo
     let script = draft.script();
     let verdict = check(&script);
     put_verdict(out, &script, verdict, wanted)?;
-    out.extend_from_slice(b"end\n")?;
-    Ok(())
+    out.extend_from_slice(b"end\n")
 }

@@ -22,7 +22,7 @@ const BATCH: usize = 65_536;
 // Says on standard error at which line the input is malformed, and what was expected there.
 fn malformed(rt: &HostRuntime, line: u64, expected: Expected) -> io::Result<()> {
     eprintln!(rt; "intake: line {line}: expected {expected}")?;
-    Err(io::Error::from(io::ErrorKind::InvalidData))
+    Err(io::ErrorKind::InvalidData.into())
 }
 
 fn flush(rt: &HostRuntime, out: &mut Vec<u8>) -> io::Result<()> {
@@ -33,10 +33,10 @@ fn flush(rt: &HostRuntime, out: &mut Vec<u8>) -> io::Result<()> {
 
 // Takes one line, and answers the script that it completes.
 fn take(reader: &mut Reader, line: &[u8], outline: bool, out: &mut Vec<u8>) -> Result<(), Fault> {
-    match reader.take(line)? {
-        Step::More => Ok(()),
-        Step::Complete => Ok(answer(out, reader.draft(), outline)?),
+    if reader.take(line)? == Step::Complete {
+        answer(out, reader.draft(), outline)?;
     }
+    Ok(())
 }
 
 fn run<R: Read + Drop>(rt: &HostRuntime, mut input: BufReader<R>, outline: bool) -> io::Result<()> {
@@ -44,15 +44,14 @@ fn run<R: Read + Drop>(rt: &HostRuntime, mut input: BufReader<R>, outline: bool)
     let mut reader = Reader::new(heap);
     let mut line = Vec::new(heap);
     let mut out = Vec::new(heap);
+    // The count is for the messages, and ends the loop: `rt.forever()` might wait.
     for number in 1..u64::MAX {
         line.clear();
-        let read = input.read_until(b'\n', &mut line)?;
-        if read == 0 {
+        if input.read_until(b'\n', &mut line)? == 0 {
             flush(rt, &mut out)?;
-            return match reader.finish() {
-                Ok(()) => Ok(()),
-                Err(expected) => malformed(rt, number, expected),
-            };
+            return reader
+                .finish()
+                .or_else(|expected| malformed(rt, number, expected));
         }
         match take(&mut reader, line.as_slice(), outline, &mut out) {
             Ok(()) => {}
@@ -60,7 +59,7 @@ fn run<R: Read + Drop>(rt: &HostRuntime, mut input: BufReader<R>, outline: bool)
                 flush(rt, &mut out)?;
                 return malformed(rt, number, expected);
             }
-            Err(Fault::NoMemory) => return Err(io::Error::from(io::ErrorKind::OutOfMemory)),
+            Err(Fault::NoMemory) => return Err(io::ErrorKind::OutOfMemory.into()),
         }
         if out.len() >= BATCH {
             flush(rt, &mut out)?;

@@ -9,22 +9,15 @@ pub struct Request {
 
 impl Request {
     pub fn of(mut args: Args) -> Request {
-        let _program = args.next();
-        let Some(first) = args.next() else {
-            return Request {
+        match args.nth(1) {
+            Some(word) if word.as_str() == "outline" => Request {
+                outline: true,
+                file: args.next(),
+            },
+            file => Request {
                 outline: false,
-                file: None,
-            };
-        };
-        if first.as_str() != "outline" {
-            return Request {
-                outline: false,
-                file: Some(first),
-            };
-        }
-        Request {
-            outline: true,
-            file: args.next(),
+                file,
+            },
         }
     }
 }

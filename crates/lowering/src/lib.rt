@@ -1,4 +1,5 @@
-#![tactic(auto)]
+// Each proof may look into the state and the rules.
+#![tactic(auto, unfolding(crate::specs::View::low, meaning::specs::LowerState::emit_at, meaning::specs::LowerState::here, meaning::specs::LowerState::patch_to, meaning::specs::LowerState::add_row, meaning::specs::LowerState::enter_name, meaning::specs::LowerState::enter_oper, meaning::specs::LowerState::depth, meaning::specs::LowerState::may_declare, meaning::specs::LowerState::declare, meaning::specs::LowerState::drop_slots, meaning::specs::LowerState::resolve, meaning::specs::LowerState::set_iters, meaning::specs::LowerState::set_handlers, meaning::specs::LowerState::innermost, meaning::specs::LowerState::enter_loop, meaning::specs::LowerState::leave_loop, meaning::specs::LowerState::add_break, meaning::specs::LowerState::land))]
 
 mod emitting;
 mod loops;
@@ -7,8 +8,5 @@ mod slots;
 mod state;
 mod words;
 
-pub use loops::{add_break, begin_loop, land};
-pub use rows::{push_assign_op, push_name, residual};
-pub use slots::{declare, depth, drop_slots, may_declare, resolve, unwind_to};
-pub use state::{Breaks, Level, Lowering, MOST, MOST_SLOTS, Names, Operators, Rows, Slots};
-pub use words::{Words, same_bytes};
+pub use state::{Breaks, Code, Level, Lowering, MOST, MOST_SLOTS, Names, Operators, Rows, Slots};
+pub use words::same_bytes;

@@ -1,9 +1,12 @@
-// What lowering keeps while it works.
+// What lowering works with and what it keeps.
 
-ghost use Rattle.std.specs.Prelude.{◌≡◌, ◌≤◌, length};
-ghost use Rattle.lowering.specs.Fit.{Counted, Fits};
+ghost use Rattle.std.specs.Prelude.{◌≤◌};
+ghost use Rattle.stack64.specs.Listed.{listed};
+ghost use Rattle.lowering.specs.Fit.{Counted, placed};
 
 use code::{AssignOp, Instr, Loop, Row};
+use records::Script;
+use stack64::Stack64;
 use tables::Stack;
 
 // The most operations, rows, names, operator rows and break places that are ever used.
@@ -12,7 +15,9 @@ pub const MOST: usize = 4_194_304;
 // The most slots.
 pub const MOST_SLOTS: usize = 65_535;
 
-// Residual rows; the name table, by labels; operator rows.
+// Operations with their positions; residual rows; the name table, by labels; operator rows.
+pub type Code<'a> = Stack<'a, Instr, MOST>;
+
 pub type Rows<'a> = Stack<'a, Row, MOST>;
 
 pub type Names<'a> = Stack<'a, u32, MOST>;
@@ -32,24 +37,26 @@ pub struct Level {
     pub base: usize,
 }
 
-// The operations, in memory that is lent, the loops around, innermost last, and counters. What else is lent lies beside.
+// The records, the memories that are lent, and beside them loops, block and counters.
 #[derive(Drop)]
 pub struct Lowering<'a> {
-    // operations with their positions
-    pub code: &'a mut [Instr],
-    pub placed: usize,
-    pub loops: [Loop; 64],
-    pub active: usize,
+    pub script: Script<'a>,
+    pub code: Code<'a>,
+    pub rows: Rows<'a>,
+    pub names: Names<'a>,
+    pub operators: Operators<'a>,
+    pub slots: Slots<'a>,
+    pub breaks: Breaks<'a>,
+    // the loops around, the innermost newest
+    pub loops: Stack64<Loop>,
+    pub block: Level,
     // live iterators, and `try` regions around
     pub iters: usize,
     pub handlers: usize,
     // the most slots that there may be, and the most that there were
     pub limit: usize,
     pub deepest: usize,
-    ghost few: { active ≤ 64 },
-    ghost table: { length loops ≡ 64 },
-    ghost code_fits: { Fits placed code.now },
-    ghost counted: { Counted placed loops },
-    ghost iterated: { iters ≤ placed },
-    ghost handled: { handlers ≤ placed },
+    ghost counted: { Counted (placed code) (listed loops) },
+    ghost iterated: { iters ≤ placed code },
+    ghost handled: { handlers ≤ placed code },
 }

@@ -1,5 +1,5 @@
 -- The tables of a script that is being read, and what a line adds to them.
-use Rattle.std.specs.Prelude.{◌≡◌, ℕ, Bool, true, false, cond, List, [], ◌∷◌, ◌++◌, Ok, Err, vec_items, codes, Result}
+use Rattle.std.specs.Prelude.{ℕ, Bool, true, false, cond, List, [], ◌∷◌, ◌++◌, Ok, Err, vec_items, codes, Result}
 use Rattle.std.specs.Str.{bytes_eq}
 use Rattle.records.specs.Tree.{Records, no_label, no_expr, no_operator}
 use Rattle.words.specs.declared.expected.Expected.{Expected}
@@ -75,14 +75,3 @@ taken s (Ok nothing) = Ok (More, s)
 taken s (Ok (script name)) = cond s.busy (Err AnEnd) (Ok (More, record { busy = true; tables = fresh name }))
 taken s (Ok (entry x)) = cond s.busy (on_tables (named s.tables.name (added s.tables.records x))) (Err AScript)
 taken s (Ok end) = cond s.busy (Ok (Complete, record { busy = false; tables = s.tables })) (Err AScript)
-
--- The tables with unused records 0 in place of what was there, and all else as it was.
-pub record Unused (d e : Draft) : Type 0 where
-  pub name : vec_items e.name ≡ vec_items d.name
-  pub text : vec_items e.text ≡ vec_items d.text
-  pub labels : vec_items e.labels ≡ no_label ∷ []
-  pub exprs : vec_items e.exprs ≡ no_expr ∷ []
-  pub operators : vec_items e.operators ≡ no_operator ∷ []
-  pub nodes : vec_items e.nodes ≡ vec_items d.nodes
-  pub limit : e.limit ≡ d.limit
-  pub keep : e.keep ≡ d.keep

@@ -1,37 +1,26 @@
 // A script that is being read: the tables that it owns.
-ghost use Rattle.std.specs.Prelude.{◌≡◌, OnOk};
+ghost use Rattle.std.specs.Prelude.{◌≡◌, [], ◌∷◌, OnOk};
 ghost use Rattle.records.specs.Tree.{records};
 ghost use Rattle.words.specs.Faults.{Became};
 ghost use Rattle.notation.specs.Lines.{entry_of};
-ghost use Rattle.notation.specs.Tables.{tables, records_of, untouched, fresh, text_of, with_text, added, named, Unused};
+ghost use Rattle.notation.specs.Tables.{tables, records_of, untouched, fresh, text_of, with_text, added, named};
 
 use super::lines::Record;
-use records::{Expr, Label, Node, Operator, Position, Script, Symbol};
+use records::{Expr, Label, Node, Operator, Script};
 use std::alloc::{AllocError, Global};
 use words::{Fault, is, spell};
 
-const NOWHERE: Position = Position { line: 0, column: 0 };
+// The largest limit, which a script has that states none.
+const LARGEST: u32 = 65_535;
 
-const NO_SYMBOL: Symbol = Symbol { token: 0, label: 0 };
-
-// The record 0 of labels, expressions and operators, which no script uses.
-const NO_LABEL: Label = Label {
-    start: 0,
-    length: 0,
-};
-
-const NO_EXPR: Expr = Expr {
-    form: 0,
-    at: NOWHERE,
-    start: NOWHERE,
-    end: 0,
-    label: 0,
-};
-
-const NO_OPERATOR: Operator = Operator {
-    compound: NO_SYMBOL,
-    binary: NO_SYMBOL,
-};
+// Leaves in a table its record 0 alone, which no script uses.
+fn reset<T: Default + Drop>(table: &mut Vec<T>) -> Result<(), AllocError>
+    ensures { OnOk result ((x : T) × T.is_default x × (table.new.items ≡ x ∷ [])) }
+{
+    table.clear();
+    table.push(T::default())?;
+    Ok(())
+}
 
 #[derive(Drop)]
 pub struct Draft {
@@ -57,7 +46,7 @@ impl Draft {
             exprs: Vec::new(heap),
             operators: Vec::new(heap),
             nodes: Vec::new(heap),
-            limit: 65_535,
+            limit: LARGEST,
             keep: false,
         }
     }
@@ -70,31 +59,21 @@ impl Draft {
         self.name.extend_from_slice(name)?;
         self.text.clear();
         self.nodes.clear();
-        self.limit = 65_535;
+        self.limit = LARGEST;
         self.keep = false;
-        self.unused()
-    }
-
-    fn unused(&mut self) -> Result<(), AllocError>
-        ensures { OnOk result (Unused self.old self.new) }
-    {
-        self.labels.clear();
-        self.labels.push(NO_LABEL)?;
-        self.exprs.clear();
-        self.exprs.push(NO_EXPR)?;
-        self.operators.clear();
-        self.operators.push(NO_OPERATOR)?;
-        Ok(())
+        reset(&mut self.labels)?;
+        reset(&mut self.exprs)?;
+        reset(&mut self.operators)
     }
 
     fn spell_text(&mut self, word: &[u8]) -> Result<(), Fault>
         ensures { Became (named self.old.name.items (with_text (records_of self.old) (text_of word.now))) result (tables self.new) }
     {
         self.text.clear();
-        if is(word, b"-") {
-            return Ok(());
+        if !is(word, b"-") {
+            spell(word, &mut self.text)?;
         }
-        spell(word, &mut self.text)
+        Ok(())
     }
 
     // Adds what a line says.

@@ -1,13 +1,13 @@
 // Lines: a word that says what the line is, and its fields.
 ghost use Rattle.std.specs.Prelude.{◌≡◌};
 ghost use Rattle.words.specs.Reads.{left, outcome, Did};
-ghost use Rattle.notation.specs.Lines.{keyword_of, four, label_line, expr_line, symbol_of, oper_line, node_line, fields_of, commented, said_of, line_of};
+ghost use Rattle.notation.specs.Lines.{keyword_of, label_line, expr_line, symbol_of, oper_line, node_line, fields_of, commented, said_of, line_of};
 
 use records::{Expr, Label, Node, Operator, Symbol};
-use words::{Expected, Words, is};
+use words::{Expected, Words};
 
 // The first words of lines.
-#[derive(Clone, Copy)]
+#[derive(Clone, Copy, Debug, PartialEq, Eq)]
 pub enum Keyword {
     Script,
     Limit,
@@ -21,7 +21,7 @@ pub enum Keyword {
 }
 
 // Something of an open script.
-#[derive(Clone, Copy)]
+#[derive(Clone, Copy, Debug, PartialEq, Eq)]
 pub enum Record<'a> {
     Limit(u32),
     Keep(bool),
@@ -34,7 +34,7 @@ pub enum Record<'a> {
 }
 
 // What a line says.
-#[derive(Clone, Copy)]
+#[derive(Clone, Copy, Debug, PartialEq, Eq)]
 pub enum Line<'a> {
     // nothing: blanks or a comment
     Empty,
@@ -44,110 +44,82 @@ pub enum Line<'a> {
 }
 
 impl Keyword {
-    // The keyword that a word is.
+    // The keyword that a word is. (For the one caller, which says what it expected, an impl of `TryFrom` is no plainer.)
+    #[tactic(auto, unfolding(crate::specs::Lines::keyword_of))]
     fn of(word: &[u8]) -> Option<Keyword>
         ensures { result ≡ keyword_of word.now }
     {
-        if is(word, b"node") {
-            Some(Keyword::Node)
-        } else if is(word, b"expr") {
-            Some(Keyword::Expr)
-        } else if is(word, b"label") {
-            Some(Keyword::Label)
-        } else if is(word, b"oper") {
-            Some(Keyword::Oper)
-        } else if is(word, b"script") {
-            Some(Keyword::Script)
-        } else if is(word, b"end") {
-            Some(Keyword::End)
-        } else if is(word, b"text") {
-            Some(Keyword::Text)
-        } else if is(word, b"limit") {
-            Some(Keyword::Limit)
-        } else if is(word, b"keep") {
-            Some(Keyword::Keep)
-        } else {
-            None
+        match word {
+            b"script" => Some(Keyword::Script),
+            b"limit" => Some(Keyword::Limit),
+            b"keep" => Some(Keyword::Keep),
+            b"text" => Some(Keyword::Text),
+            b"label" => Some(Keyword::Label),
+            b"expr" => Some(Keyword::Expr),
+            b"oper" => Some(Keyword::Oper),
+            b"node" => Some(Keyword::Node),
+            b"end" => Some(Keyword::End),
+            _ => None,
         }
     }
-}
-
-fn read_four(words: &mut Words) -> Result<(u32, u32, u32, u32), Expected>
-    ensures { Did four (left words.old) result (left words.new) }
-{
-    let a = words.number(u32::MAX)?;
-    let b = words.number(u32::MAX)?;
-    let c = words.number(u32::MAX)?;
-    let d = words.number(u32::MAX)?;
-    Ok((a, b, c, d))
 }
 
 fn read_label(words: &mut Words) -> Result<Label, Expected>
     ensures { Did label_line (left words.old) result (left words.new) }
 {
-    let start = words.number(u32::MAX)?;
-    let length = words.number(u32::MAX)?;
-    Ok(Label { start, length })
+    Ok(Label {
+        start: words.number(u32::MAX)?,
+        length: words.number(u32::MAX)?,
+    })
 }
 
 fn read_expr(words: &mut Words) -> Result<Expr, Expected>
     ensures { Did expr_line (left words.old) result (left words.new) }
 {
-    let form = words.number(u32::MAX)?;
-    let at = words.position()?;
-    let start = words.position()?;
-    let end = words.number(u32::MAX)?;
-    let label = words.number(u32::MAX)?;
     Ok(Expr {
-        form,
-        at,
-        start,
-        end,
-        label,
+        form: words.number(u32::MAX)?,
+        at: words.position()?,
+        start: words.position()?,
+        end: words.number(u32::MAX)?,
+        label: words.number(u32::MAX)?,
     })
 }
 
 fn read_symbol(words: &mut Words) -> Result<Symbol, Expected>
     ensures { Did symbol_of (left words.old) result (left words.new) }
 {
-    let token = words.number(65_535)?;
-    let label = words.number(u32::MAX)?;
+    // The cast is proved to lose nothing, where `try_from` would have an error that cannot come.
     Ok(Symbol {
-        token: token as u16,
-        label,
+        token: words.number(u32::from(u16::MAX))? as u16,
+        label: words.number(u32::MAX)?,
     })
 }
 
 fn read_operator(words: &mut Words) -> Result<Operator, Expected>
     ensures { Did oper_line (left words.old) result (left words.new) }
 {
-    let compound = read_symbol(words)?;
-    let binary = read_symbol(words)?;
-    Ok(Operator { compound, binary })
+    Ok(Operator {
+        compound: read_symbol(words)?,
+        binary: read_symbol(words)?,
+    })
 }
 
 fn read_node(words: &mut Words) -> Result<Node, Expected>
     ensures { Did node_line (left words.old) result (left words.new) }
 {
-    let kind = words.number(u32::MAX)?;
-    let flags = words.number(u32::MAX)?;
-    let at = words.position()?;
-    let mark = words.position()?;
-    let (mid, end, expr, label) = read_four(words)?;
-    let (counter, reuse, target, operator) = read_four(words)?;
     Ok(Node {
-        kind,
-        flags,
-        at,
-        mark,
-        mid,
-        end,
-        expr,
-        label,
-        counter,
-        reuse,
-        target,
-        operator,
+        kind: words.number(u32::MAX)?,
+        flags: words.number(u32::MAX)?,
+        at: words.position()?,
+        mark: words.position()?,
+        mid: words.number(u32::MAX)?,
+        end: words.number(u32::MAX)?,
+        expr: words.number(u32::MAX)?,
+        label: words.number(u32::MAX)?,
+        counter: words.number(u32::MAX)?,
+        reuse: words.number(u32::MAX)?,
+        target: words.number(u32::MAX)?,
+        operator: words.number(u32::MAX)?,
     })
 }
 
@@ -171,7 +143,7 @@ fn fields<'a>(keyword: Keyword, words: &mut Words<'a>) -> Result<Line<'a>, Expec
 fn is_comment(word: &[u8]) -> bool
     ensures { result ≡ commented word.now }
 {
-    !word.is_empty() && word[0] == b'#'
+    matches!(word, [b'#', ..])
 }
 
 impl<'a> Line<'a> {
@@ -187,9 +159,7 @@ impl<'a> Line<'a> {
         if is_comment(first) {
             return Ok(Line::Empty);
         }
-        let Some(keyword) = Keyword::of(first) else {
-            return Err(Expected::Keyword);
-        };
+        let keyword = Keyword::of(first).ok_or(Expected::Keyword)?;
         let said = fields(keyword, &mut words)?;
         words.end()?;
         Ok(said)

@@ -9,15 +9,15 @@ use super::lines::Line;
 use std::alloc::Global;
 use words::{Expected, Fault};
 
-// What a line led to.
-#[derive(Clone, Copy)]
+// What a line led to. (A bool would not say which of the two it is.)
+#[derive(Clone, Copy, Debug, PartialEq, Eq)]
 pub enum Step {
     More,
     // the script is read to its end
     Complete,
 }
 
-// A draft, and whether its script is open.
+// A draft, and whether its script is open: a flag, since the draft is lent after its script is closed too.
 #[derive(Drop)]
 pub struct Reader {
     busy: bool,
@@ -40,13 +40,13 @@ impl Reader {
     {
         match Line::read(line)? {
             Line::Empty => Ok(Step::More),
-            Line::Script(_) if self.busy => Err(Fault::Malformed(Expected::End)),
+            Line::Script(_) if self.busy => Err(Expected::End.into()),
             Line::Script(name) => {
                 self.draft.begin(name)?;
                 self.busy = true;
                 Ok(Step::More)
             }
-            _ if !self.busy => Err(Fault::Malformed(Expected::Script)),
+            _ if !self.busy => Err(Expected::Script.into()),
             Line::Record(record) => {
                 self.draft.add(record)?;
                 Ok(Step::More)
@@ -91,17 +91,15 @@ mod tests {
     #[test]
     fn lines_outside_a_script(rt: HostRuntime) {
         let mut reader = Reader::new(rt.alloc());
-        assert!(rt; matches!(expected(&mut reader, b"  \t\r\n"), None));
-        assert!(rt; matches!(expected(&mut reader, b"# end"), None));
-        assert!(rt; matches!(expected(&mut reader, b"end"), Some(Expected::Script)));
-        assert!(rt; matches!(expected(&mut reader, b"label 0 0"), Some(Expected::Script)));
-        assert!(rt; matches!(expected(&mut reader, b"Script a"), Some(Expected::Keyword)));
-        assert!(rt; matches!(expected(&mut reader, b"script"), Some(Expected::Name)));
-        assert!(rt;
-            matches!(
-                expected(&mut reader, b"script a b"),
-                Some(Expected::LineEnd)
-            )
+        assert_eq!(rt; expected(&mut reader, b"  \t\r\n"), None);
+        assert_eq!(rt; expected(&mut reader, b"# end"), None);
+        assert_eq!(rt; expected(&mut reader, b"end"), Some(Expected::Script));
+        assert_eq!(rt; expected(&mut reader, b"label 0 0"), Some(Expected::Script));
+        assert_eq!(rt; expected(&mut reader, b"Script a"), Some(Expected::Keyword));
+        assert_eq!(rt; expected(&mut reader, b"script"), Some(Expected::Name));
+        assert_eq!(rt;
+            expected(&mut reader, b"script a b"),
+            Some(Expected::LineEnd)
         );
         assert!(rt; reader.finish().is_ok());
     }
@@ -109,16 +107,14 @@ mod tests {
     #[test]
     fn lines_inside_a_script(rt: HostRuntime) {
         let mut reader = Reader::new(rt.alloc());
-        assert!(rt; matches!(expected(&mut reader, b"script a\r\n"), None));
-        assert!(rt; matches!(expected(&mut reader, b"script b"), Some(Expected::End)));
-        assert!(rt; matches!(expected(&mut reader, b"keep 2"), Some(Expected::Flag)));
-        assert!(rt; matches!(expected(&mut reader, b"text abc"), Some(Expected::Hex)));
+        assert_eq!(rt; expected(&mut reader, b"script a\r\n"), None);
+        assert_eq!(rt; expected(&mut reader, b"script b"), Some(Expected::End));
+        assert_eq!(rt; expected(&mut reader, b"keep 2"), Some(Expected::Flag));
+        assert_eq!(rt; expected(&mut reader, b"text abc"), Some(Expected::Hex));
         assert!(rt; matches!(expected(&mut reader, b"label 0"), Some(Expected::Number(_))));
-        assert!(rt;
-            matches!(
-                expected(&mut reader, b"expr 1 1 1:1 2 0"),
-                Some(Expected::Position)
-            )
+        assert_eq!(rt;
+            expected(&mut reader, b"expr 1 1 1:1 2 0"),
+            Some(Expected::Position)
         );
         assert!(rt;
             matches!(
@@ -126,22 +122,20 @@ mod tests {
                 Some(Expected::Number(_))
             )
         );
-        assert!(rt; matches!(expected(&mut reader, b"text -"), None));
+        assert_eq!(rt; expected(&mut reader, b"text -"), None);
         assert!(rt; reader.finish().is_err());
     }
 
     #[test]
     fn tables_of_a_script(rt: HostRuntime) {
         let mut reader = Reader::new(rt.alloc());
-        assert!(rt; matches!(expected(&mut reader, b"script a"), None));
-        assert!(rt;
-            matches!(
-                expected(&mut reader, b"node 1 0 1:2 0:0 1 1 0 0 0 0 0 0"),
-                None
-            )
+        assert_eq!(rt; expected(&mut reader, b"script a"), None);
+        assert_eq!(rt;
+            expected(&mut reader, b"node 1 0 1:2 0:0 1 1 0 0 0 0 0 0"),
+            None
         );
-        assert!(rt; matches!(expected(&mut reader, b"\ttext 4a4B"), None));
-        assert!(rt; matches!(reader.take(b"end"), Ok(Step::Complete)));
+        assert_eq!(rt; expected(&mut reader, b"\ttext 4a4B"), None);
+        assert_eq!(rt; reader.take(b"end"), Ok(Step::Complete));
         let script = reader.draft().script();
         assert!(rt;
             script.text == b"JK".as_slice() && script.nodes.len() == 1 && script.labels.len() == 1

@@ -1,20 +1,18 @@
 -- A run of the definition, taken apart from its last step back.
-use Rattle.std.proofs.Common.{◌≡◌, ℕ, suc, ◌+◌, ◌-◌, ◌<◌, ◌≤◌, List, [], length, get_or, sym, refl, ap, ◌∙◌, subst, add-one, arith}
-use Rattle.std.proofs.lemmas.List.{get_or_default, get_or_past}
+use Rattle.std.proofs.Common.{◌≡◌, ℕ, suc, ◌+◌, ◌-◌, ◌<◌, ◌≤◌, List, [], sym, refl, ap, ◌∙◌, subst, add-one, arith}
 use Rattle.code.specs.declared.talk.Handler.{Handler}
 use Rattle.code.specs.declared.talk.Question.{Question}
 use Rattle.code.specs.declared.talk.Purpose.{Purpose}
 use Rattle.code.specs.declared.talk.End.{End}
 use Rattle.code.specs.declared.ops.Instr.{Instr}
 use Rattle.code.specs.declared.ops.Row.{Row}
-use Rattle.meaning.specs.Machine.{Mach, Locals, exec}
-use Rattle.meaning.specs.Calls.{State, State.ready, State.halted, no_instr, after, Reply.spent, Reply.asks, Reply.ends, Reply.sticks, Told, told, goes, step, plays}
+use Rattle.meaning.specs.Machine.{Mach, Locals}
+use Rattle.meaning.specs.Calls.{State, State.ready, Reply.spent, Reply.asks, Reply.ends, Reply.sticks, Told, told, goes, step, plays}
 use Rattle.player.specs.declared.kinds.Mode.{Mode}
-use Rattle.player.specs.declared.kinds.Mode.TheVariants.{Ready, Waiting, Ended, Stuck}
+use Rattle.player.specs.declared.kinds.Mode.TheVariants.{Ready, Waiting, Ended, Stuck as StuckMode}
 use Rattle.player.specs.declared.machine.Player.{Player}
-use Rattle.player.specs.declared.kinds.Flow.{Flow}
-use Rattle.player.specs.Players.{mach, effect, Same, Does}
-use Rattle.player.specs.States.{Kept, state, state_of}
+use Rattle.player.specs.Players.{mach, Kept}
+use Rattle.player.specs.States.{state, state_of}
 
 plays-more : (code : List Instr) (rows : List Row) (limit n i : ℕ) (m : Mach) → n < limit → plays code rows (limit - n) n i m ≡ goes (plays code rows (limit - (n + 1)) (n + 1)) (n + 1) (step code rows i m)
 unfolding plays
@@ -30,10 +28,10 @@ pub kept-kept : (a b p : Player) → Kept a b → Kept b p → Kept a p
 kept-kept a b p f g = record { lent = g.lent ∙ f.lent; code = g.code ∙ f.code; rows = g.rows ∙ f.rows; names = g.names ∙ f.names }
 
 -- the run from a, with n operations done at b, and one more at p
-pub onward : (a b p : Player) (limit n : ℕ) → Kept a b → n < limit → state p ≡ step b.code.now b.rows.now b.place (mach b) → goes (plays a.code.now a.rows.now (limit - (n + 1)) (n + 1)) (n + 1) (state p) ≡ plays a.code.now a.rows.now (limit - n) n b.place (mach b)
-onward a b p limit n f h e =
+pub onward : (a b p : Player) (limit n : ℕ) (w : Told) → Kept a b → n < limit → state p ≡ step b.code.now b.rows.now b.place (mach b) → plays a.code.now a.rows.now (limit - n) n b.place (mach b) ≡ w → goes (plays a.code.now a.rows.now (limit - (n + 1)) (n + 1)) (n + 1) (state p) ≡ w
+onward a b p limit n w f h e g =
     let k : state p ≡ step a.code.now a.rows.now b.place (mach b) = e ∙ ap (λ c. step c.now b.rows.now b.place (mach b)) f.code ∙ ap (λ r. step a.code.now r.now b.place (mach b)) f.rows in
-    ap (goes (plays a.code.now a.rows.now (limit - (n + 1)) (n + 1)) (n + 1)) k ∙ sym (plays-more a.code.now a.rows.now limit n b.place (mach b) h)
+    ap (goes (plays a.code.now a.rows.now (limit - (n + 1)) (n + 1)) (n + 1)) k ∙ sym (plays-more a.code.now a.rows.now limit n b.place (mach b) h) ∙ g
 
 module _ (f : ℕ → Mach → Told) (n : ℕ) (p : Player) where
   pub on-ready : p.mode ≡ Ready → f p.place (mach p) ≡ goes f n (state p)
@@ -45,26 +43,13 @@ module _ (f : ℕ → Mach → Told) (n : ℕ) (p : Player) where
   pub on-ended : (x : End) → p.mode ≡ Ended x → told (ends n x) (state p) ≡ goes f n (state p)
   on-ended x e = let P : Mode → Type 0 = λ d. told (ends n x) (state_of d p.place (mach p)) ≡ goes f n (state_of d p.place (mach p)) in subst P (sym e) refl
 
-  pub on-stuck : p.mode ≡ Stuck → told (sticks n) (state p) ≡ goes f n (state p)
+  pub on-stuck : p.mode ≡ StuckMode → told (sticks n) (state p) ≡ goes f n (state p)
   on-stuck e = let P : Mode → Type 0 = λ d. told (sticks n) (state_of d p.place (mach p)) ≡ goes f n (state_of d p.place (mach p)) in subst P (sym e) refl
 
 pub spends : (code : List Instr) (rows : List Row) (p : Player) (limit n : ℕ) → p.mode ≡ Ready → n ≤ limit → limit ≤ n → told (spent limit) (state p) ≡ plays code rows (limit - n) n p.place (mach p)
 spends code rows p limit n e h k =
     let z : limit ≡ n = omega arith in
     ap (λ d. told (spent limit) (state_of d p.place (mach p))) e ∙ ap (λ j. told (spent j) (ready p.place (mach p))) z ∙ sym (plays-none code rows limit n p.place (mach p) k)
-
-pub same_kept : (a b p : Player) → Same a b → Kept b p → Kept a p
-same_kept a b p f g = record { lent = g.lent ∙ f.lent; code = g.code ∙ f.code; rows = g.rows ∙ f.rows; names = g.names ∙ f.names }
-
--- no operation past the end
-pub step_past : (code : List Instr) (rows : List Row) (i : ℕ) (m : Mach) → length code ≤ i → halted ≡ step code rows i m
-step_past code rows i m h = sym (ap (λ x. after (exec rows x.op x.at m) i) (get_or_past code i no_instr h))
-
--- an operation that a method did, and what it came to
-pub stepped : (a b p : Player) (f : Flow) (d : Instr) → a.place < length a.code.now → Does a f b (exec a.rows.now (get_or a.code.now a.place d).op (get_or a.code.now a.place d).at) → state p ≡ after (effect f (mach b)) b.place → state p ≡ step a.code.now a.rows.now a.place (mach a)
-stepped a b p f d h e s =
-    s ∙ ap (λ v. after v b.place) e.did ∙ ap (λ i. after (exec a.rows.now (get_or a.code.now a.place d).op (get_or a.code.now a.place d).at (mach a)) i) e.same.place
-    ∙ ap (λ x. after (exec a.rows.now x.op x.at (mach a)) a.place) (get_or_default a.code.now a.place d no_instr h)
 
 pub fresh : (vs is : List ℕ) (hs : List Handler) (l : Locals) → vs ≡ [] → is ≡ [] → hs ≡ [] → ◌≡◌ {A = State} (ready 0 (record { values = vs; iters = is; handlers = hs; slots = l })) (ready 0 (record { values = []; iters = []; handlers = []; slots = l }))
 fresh vs is hs l p q r = cc

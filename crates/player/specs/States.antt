@@ -20,10 +20,3 @@ state p = state_of p.mode p.place (mach p)
 -- Two references to one place.
 abbrev pub Tied : {A : Type 0} → MutBor A → MutBor A → Type 0
 Tied x y = x.ghost_name ≡ y.ghost_name
-
--- What no call changes: code, rows and names, and where the slot memory lies.
-pub record Kept (a b : Player) : Type 0 where
-  pub lent : b.slots.ghost_name ≡ a.slots.ghost_name
-  pub code : b.code ≡ a.code
-  pub rows : b.rows ≡ a.rows
-  pub names : b.names ≡ a.names

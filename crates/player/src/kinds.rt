@@ -1,8 +1,9 @@
 use code::{Answer, End, Purpose, Question};
-use records::{Position, Refusal};
+use records::{Position, Refusal, UnknownNumber};
+use stack64::NoPlace;
 
 // What a player is about.
-#[derive(Clone, Copy)]
+#[derive(Clone, Copy, Debug, PartialEq, Eq)]
 pub enum Mode {
     // to take the operation at its place
     Ready,
@@ -12,18 +13,33 @@ pub enum Mode {
     Stuck,
 }
 
-// What an operation or an answer comes to.
-#[derive(Clone, Copy)]
+// What an operation or an answer comes to, unless the player is stuck.
+#[derive(Clone, Copy, Debug, PartialEq, Eq)]
 pub enum Flow {
     Next,
     Goto(u32),
     Ask(Question, Purpose),
     Fault { handle: u64, at: Position },
     Give(u64),
-    Stuck,
 }
 
-#[derive(Clone, Copy)]
+// The code is not fit to be played on: an item is missing, a table is full, or a number means nothing.
+#[derive(Clone, Copy, Debug, PartialEq, Eq)]
+pub struct Stuck;
+
+impl From<NoPlace> for Stuck {
+    fn from(_full: NoPlace) -> Stuck {
+        Stuck
+    }
+}
+
+impl From<UnknownNumber> for Stuck {
+    fn from(_number: UnknownNumber) -> Stuck {
+        Stuck
+    }
+}
+
+#[derive(Clone, Copy, Debug, PartialEq, Eq)]
 pub enum Call {
     // at most so many steps
     Run(u32),
@@ -34,7 +50,7 @@ pub enum Call {
 }
 
 // What a run tells, with its count of steps.
-#[derive(Clone, Copy)]
+#[derive(Clone, Copy, Debug, PartialEq, Eq)]
 pub enum Outcome {
     Spent(u32),
     Asks(u32, Question),
@@ -43,7 +59,7 @@ pub enum Outcome {
 }
 
 // What taking an answer led to.
-#[derive(Clone, Copy)]
+#[derive(Clone, Copy, Debug, PartialEq, Eq)]
 pub enum Answered {
     // the script goes on
     Taken,
@@ -52,7 +68,8 @@ pub enum Answered {
     Stuck,
 }
 
-#[derive(Clone, Copy)]
+// (A decline is a reply like the others: a replay records them all in one list.)
+#[derive(Clone, Copy, Debug, PartialEq, Eq)]
 pub enum Reply {
     Ran(Outcome),
     Answered(Answered),

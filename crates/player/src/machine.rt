@@ -25,7 +25,7 @@ pub struct Player<'a> {
     values: Stack64<u64>,
     iters: Stack64<u64>,
     handlers: Stack64<Handler>,
-    // how many slots are live
+    // how many slots are live; with a `tables::Stack`, `close` has no proof: no rule for a `&mut [T]` in a struct within `self`
     live: usize,
     ghost sound: { live ≤ length slots.now },
     // a player that waits stands at an operation

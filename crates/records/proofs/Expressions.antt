@@ -2,7 +2,7 @@
 use Rattle.std.proofs.Common.{◌≡◌, ℕ, zero, suc, ◌+◌, ◌-◌, ◌<◌, ◌≤◌, max, Bool, true, false, not, ◌&&◌, ◌||◌, eqb, ltb, leb, ◌⊎◌, length, Some, None, Option as Maybe, sym, refl, subst, inl, inr, arith, ltb-true, lt-ltb, eq-eqb, ne_eqb, eqb-true, le-leb, leb-true}
 use mathlib.Core.Option.{none}
 use borrow.Author.Tests.{both_ways}
-use Rattle.std.proofs.lemmas.Bool.{cases_eq}
+use Rattle.std.proofs.lemmas.Bool.{cases_eq, and_parts, and_from, or_cases}
 use Rattle.records.specs.declared.kinds.Form.{Form}
 use Rattle.records.specs.declared.kinds.Form.TheVariants.{Unit as UnitForm, True, Opaque, False, Name, AllOf, AnyOf}
 use Rattle.records.specs.declared.types.Expr.{Expr}
@@ -11,7 +11,7 @@ use Rattle.records.specs.Meanings.{form_of, known, is_list}
 use Rattle.records.specs.Preorder.{TreeAt, ForestAt}
 use Rattle.records.specs.Checks.{names, tiles, form_law, expr_law, expr_sound, expr_fault}
 use Rattle.records.specs.Accepts.{Term, term_of, expressions}
-use Rattle.records.proofs.Bools.{and_both, both-and, or-either, each_all, all-each}
+use Rattle.records.proofs.Bools.{each_all, all-each}
 use Rattle.records.proofs.Forests.{tree-lt, forest-le, tree-end, Below, each_f}
 
 -- A form's own law says where its record ends.
@@ -20,7 +20,7 @@ form-end UnitForm R e i h = inr (refl, eqb-true _ _ h)
 form-end True R e i h = inr (refl, eqb-true _ _ h)
 form-end Opaque R e i h = inr (refl, eqb-true _ _ h)
 form-end False R e i h = inr (refl, eqb-true _ _ h)
-form-end Name R e i h = inr (refl, eqb-true _ _ (and_both {x = names (length R.labels) e.label} h).1)
+form-end Name R e i h = inr (refl, eqb-true _ _ (and_parts (names (length R.labels) e.label) _ h).1)
 form-end AllOf R e i h = inl (refl, ltb-true _ _ h)
 form-end AnyOf R e i h = inl (refl, ltb-true _ _ h)
 
@@ -52,11 +52,11 @@ module _ (R : Records) where
       go : (m : Maybe Form) → form_of (expr_at R i).form ≡ m → is_known m i ≡ true → Fine i
       go None q w = absurd (both_ways false refl w)
       go (Some f) q w =
-          let p = and_both {x = form_law f R (expr_at R i) i} w in
+          let p = and_parts (form_law f R (expr_at R i) i) _ w in
           let l = subst (λ (m : Maybe Form). known m (λ f. form_law f R (expr_at R i) i) ≡ true) (sym q) p.0 in
           elim (form-end f R (expr_at R i) i p.0) [
             | inl x ↦
-                let y = and_both {x = leb (expr_at R i).end (length R.exprs)} (listed (is_list f) x.0 p.1) in
+                let y = and_parts (leb (expr_at R i).end (length R.exprs)) _ (listed (is_list f) x.0 p.1) in
                 let z = x.1 in
                 record { law = l; after = omega arith; within = leb-true _ _ y.0; items = y.1 }
             | inr x ↦
@@ -73,7 +73,7 @@ module _ (R : Records) where
 
       go : (m : Maybe Form) → known m (λ f. form_law f R (expr_at R i) i) ≡ true → is_known m i ≡ true
       go None w = absurd (both_ways false refl w)
-      go (Some f) w = both-and w (listed (is_list f) (both-and (le-leb _ _ x.within) x.items))
+      go (Some f) w = and_from _ _ w (listed (is_list f) (and_from _ _ (le-leb _ _ x.within) x.items))
 
   -- ## From the checks to trees
 
@@ -87,11 +87,11 @@ module _ (R : Records) where
   unfolding tiles
   hop zero a b h = inl (eqb-true a b h)
   hop (suc k) a b h =
-      elim (or-either {x = eqb a b} h) [
+      elim (or_cases (eqb a b) _ h) [
         | inl e ↦ inl (eqb-true a b e)
         | inr e ↦
-            let p = and_both {x = ltb a (expr_at R a).end} e in
-            let q = and_both {x = leb (expr_at R a).end b} p.1 in
+            let p = and_parts (ltb a (expr_at R a).end) _ e in
+            let q = and_parts (leb (expr_at R a).end b) _ p.1 in
             inr (record { steps = k; after = ltb-true _ _ p.0; within = leb-true _ _ q.0; on = q.1 })
       ]
 
@@ -124,7 +124,7 @@ module _ (R : Records) where
         | inr ne ↦
             let f = all a o (omega arith) in
             let p = f.after in
-            rw (ne_eqb a (length R.exprs) ne) (both-and (lt-ltb _ _ p) (both-and (le-leb _ _ f.within) (path-up all k (expr_at R a).end (omega arith) f.within (omega arith))))
+            rw (ne_eqb a (length R.exprs) ne) (and_from _ _ (lt-ltb _ _ p) (and_from _ _ (le-leb _ _ f.within) (path-up all k (expr_at R a).end (omega arith) f.within (omega arith))))
       ]
 
   pub terms-stand : expr_fault R ≡ none → (f : Forest Term) × ForestAt (expressions R) f 1 (max 1 (length R.exprs))
@@ -154,7 +154,7 @@ module _ (R : Records) where
       let v = forest-le (expressions R) f p.0 b p.2 in
       let e : p.0 ≡ (expr_at R a).end = tree-end (expressions R) s a p.0 p.1 in
       let rest = subst (λ (m : ℕ). tiles R k m b ≡ true) e (forest-tiles f p.0 b p.2 k (omega arith)) in
-      rw (ne_eqb a b (λ q. omega arith)) (both-and (lt-ltb a (expr_at R a).end (omega arith)) (both-and (le-leb (expr_at R a).end b (omega arith)) rest))
+      rw (ne_eqb a b (λ q. omega arith)) (and_from _ _ (lt-ltb a (expr_at R a).end (omega arith)) (and_from _ _ (le-leb (expr_at R a).end b (omega arith)) rest))
 
   pub terms-pass : (f : Forest Term) → ForestAt (expressions R) f 1 (max 1 (length R.exprs)) → expr_fault R ≡ none
   terms-pass f p = all-each (expr_sound R) (length R.exprs) (λ i l u. fine-sound i (go i u (each_f (expressions R) f 1 (max 1 (length R.exprs)) p i l (omega arith))))

@@ -3,7 +3,6 @@ pub mod Forests
 pub mod Statements
 pub mod Expressions
 pub mod Accepted
-pub mod Nests
 pub mod Tiles
 pub mod Walks
 pub mod Blocks

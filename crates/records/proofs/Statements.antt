@@ -2,15 +2,15 @@
 use Rattle.std.proofs.Common.{◌≡◌, ℕ, zero, suc, ◌+◌, ◌-◌, ◌<◌, ◌≤◌, max, Bool, true, false, cond, not, ◌&&◌, ◌||◌, eqb, ltb, leb, List, [], ◌∷◌, length, Some, None, Option as Maybe, sym, refl, ap, ◌∙◌, subst, inl, inr, arith, ltb-true, lt-ltb, eq-eqb, ne_eqb, eqb-true, le-leb, leb-false, leb-true}
 use mathlib.Core.Option.{Option, none, some}
 use borrow.Author.Tests.{lt-leb, both_ways}
-use Rattle.std.proofs.lemmas.Bool.{cases_eq, cases_Bool}
+use Rattle.std.proofs.lemmas.Bool.{cases_Bool, and_parts, and_from, not-true, not_from_false}
 use Rattle.records.specs.declared.kinds.Kind.{Kind}
 use Rattle.records.specs.declared.nest.Open.{Open}
-use Rattle.records.specs.Tree.{Records, Tree.node, Forest.nil, Forest.more, Stmt, Block, node_at, head_of, flagged}
+use Rattle.records.specs.Tree.{Records, Head, Tree.node, Forest.nil, Forest.more, Stmt, Block, node_at, head_of, flagged}
 use Rattle.records.specs.Meanings.{kind_of, known, has_body, has_branch}
 use Rattle.records.specs.Preorder.{TreeAt, ForestAt}
 use Rattle.records.specs.Checks.{first, field_law, shape_law, range_law, left_out, compound, node_law, kind_fault, node_fault, closed, limit_of, opened, walk, statement_fault}
 use Rattle.records.specs.Accepts.{statements, has_blocks, height_s, height}
-use Rattle.records.proofs.Bools.{and_both, both-and, none-some, first-none, none_first, not_is, is-not}
+use Rattle.records.proofs.Bools.{none-some, first-none, none_first}
 use Rattle.records.proofs.Forests.{tree-lt, forest-le}
 
 -- ## One statement
@@ -33,17 +33,17 @@ passes false b c e = absurd (none-some e)
 pub fine : (R : Records) (i limit depth : ℕ) → node_fault R i limit depth ≡ none → Fine R i limit depth
 fine R i limit depth e = go (kind_of (node_at R i).kind) refl e
   where
-    go : (m : Maybe Kind) → kind_of (node_at R i).kind ≡ m → kind_fault m R i limit depth ≡ none → Fine R i limit depth
+    go : (m : Maybe Kind) → kind_of (node_at R i).kind ≡ m → kind_fault m R (node_at R i) i limit depth ≡ none → Fine R i limit depth
     go None q w = absurd (none-some w)
     go (Some k) q w =
         let p = passes (field_law k R (node_at R i) && range_law k (node_at R i) i limit) (left_out k (node_at R i)) (has_body k && leb 64 depth) w in
-        let f = and_both {x = field_law k R (node_at R i)} p.0 in
-        let r = and_both {x = ltb i (node_at R i).mid} f.1 in
-        let s = and_both {x = leb (node_at R i).mid (node_at R i).end} r.1 in
-        let t = and_both {x = leb (node_at R i).end limit} s.1 in
+        let f = and_parts (field_law k R (node_at R i)) _ p.0 in
+        let r = and_parts (ltb i (node_at R i).mid) _ f.1 in
+        let s = and_parts (leb (node_at R i).mid (node_at R i).end) _ r.1 in
+        let t = and_parts (leb (node_at R i).end limit) _ s.1 in
         record {
           law = subst (λ (m : Maybe Kind). known m (λ k. field_law k R (node_at R i) && (shape_law k (node_at R i) i && not (left_out k (node_at R i)))) ≡ true) (sym q)
-              (both-and f.0 (both-and t.1 (is-not p.1)));
+              (and_from _ _ f.0 (and_from _ _ t.1 (not_from_false _ p.1)));
           after = ltb-true _ _ r.0;
           ordered = leb-true _ _ s.0;
           within = leb-true _ _ t.0;
@@ -57,16 +57,16 @@ fine R i limit depth e = go (kind_of (node_at R i).kind) refl e
 pub fineless : (R : Records) (i limit depth : ℕ) → Fine R i limit depth → node_fault R i limit depth ≡ none
 fineless R i limit depth x = go (kind_of (node_at R i).kind) refl
   where
-    go : (m : Maybe Kind) → kind_of (node_at R i).kind ≡ m → kind_fault m R i limit depth ≡ none
+    go : (m : Maybe Kind) → kind_of (node_at R i).kind ≡ m → kind_fault m R (node_at R i) i limit depth ≡ none
     go None q = absurd (both_ways false refl (subst (λ (m : Maybe Kind). known m (λ k. field_law k R (node_at R i) && (shape_law k (node_at R i) i && not (left_out k (node_at R i)))) ≡ true) q x.law))
     go (Some k) q =
         let l : (field_law k R (node_at R i) && (shape_law k (node_at R i) i && not (left_out k (node_at R i)))) ≡ true =
         subst (λ (m : Maybe Kind). known m (λ k. field_law k R (node_at R i) && (shape_law k (node_at R i) i && not (left_out k (node_at R i)))) ≡ true) q x.law in
-        let f = and_both {x = field_law k R (node_at R i)} l in
-        let s = and_both {x = shape_law k (node_at R i) i} f.1 in
-        let r : range_law k (node_at R i) i limit ≡ true = both-and (lt-ltb _ _ x.after) (both-and (le-leb _ _ x.ordered) (both-and (le-leb _ _ x.within) s.0)) in
+        let f = and_parts (field_law k R (node_at R i)) _ l in
+        let s = and_parts (shape_law k (node_at R i) i) _ f.1 in
+        let r : range_law k (node_at R i) i limit ≡ true = and_from _ _ (lt-ltb _ _ x.after) (and_from _ _ (le-leb _ _ x.ordered) (and_from _ _ (le-leb _ _ x.within) s.0)) in
         let d : (has_body k && leb 64 depth) ≡ false = deep (has_body k) refl (λ e. x.shallow (subst (λ (m : Maybe Kind). known m has_body ≡ true) (sym q) e)) in
-        rw (f.0, r, not_is {b = left_out k (node_at R i)} s.1, d) refl
+        rw (f.0, r, not-true (left_out k (node_at R i)) s.1, d) refl
       where
         deep : (b : Bool) → has_body k ≡ b → (b ≡ true → depth < 64) → (b && leb 64 depth) ≡ false
         deep true e h = lt-leb 64 depth (h refl)
@@ -79,72 +79,36 @@ leaf R i l c = go (kind_of (node_at R i).kind) l c
     alone : (b : Bool) (k : Kind) → b ≡ false → cond b (has_branch k || eqb (node_at R i).mid (node_at R i).end) (eqb (node_at R i).mid (i + 1) && eqb (node_at R i).end (i + 1)) ≡ true
         → ((node_at R i).mid ≡ i + 1) × ((node_at R i).end ≡ i + 1)
     alone true k e h = absurd (both_ways true e refl)
-    alone false k e h = let p = and_both {x = eqb (node_at R i).mid (i + 1)} h in (eqb-true _ _ p.0, eqb-true _ _ p.1)
+    alone false k e h = let p = and_parts (eqb (node_at R i).mid (i + 1)) _ h in (eqb-true _ _ p.0, eqb-true _ _ p.1)
 
     go : (m : Maybe Kind) → known m (λ k. field_law k R (node_at R i) && (shape_law k (node_at R i) i && not (left_out k (node_at R i)))) ≡ true → known m has_body ≡ false
         → ((node_at R i).mid ≡ i + 1) × ((node_at R i).end ≡ i + 1)
     go None p q = absurd (both_ways false refl p)
-    go (Some k) p q = alone (has_body k) k q (and_both {x = shape_law k (node_at R i) i} (and_both {x = field_law k R (node_at R i)} p).1).0
+    go (Some k) p q = alone (has_body k) k q (and_parts (shape_law k (node_at R i) i) _ (and_parts (field_law k R (node_at R i)) _ p).1).0
 
 -- A head has blocks exactly if its kind has a body.
 pub head-blocks : (R : Records) (i : ℕ) → has_blocks (head_of R i) ≡ compound R i
 head-blocks R i =
-    elim (cases_eq K 1) [
-      | inl e ↦ rw e refl
-      | inr n1 ↦
-          elim (cases_eq K 2) [
-            | inl e ↦ rw e refl
-            | inr n2 ↦
-                elim (cases_eq K 3) [
-                  | inl e ↦ rw e refl
-                  | inr n3 ↦
-                      elim (cases_eq K 4) [
-                        | inl e ↦ rw e refl
-                        | inr n4 ↦
-                            elim (cases_eq K 5) [
-                              | inl e ↦ elim (cases_Bool (eqb (node_at R i).target 1)) [ inl f ↦ rw (e, f) refl | inr f ↦ rw (e, f) refl ]
-                              | inr n5 ↦
-                                  elim (cases_eq K 6) [
-                                    | inl e ↦ rw e refl
-                                    | inr n6 ↦
-                                        elim (cases_eq K 7) [
-                                          | inl e ↦ rw e refl
-                                          | inr n7 ↦
-                                              elim (cases_eq K 8) [
-                                                | inl e ↦ rw e refl
-                                                | inr n8 ↦
-                                                    elim (cases_eq K 9) [
-                                                      | inl e ↦ rw e refl
-                                                      | inr n9 ↦
-                                                          elim (cases_eq K 10) [
-                                                            | inl e ↦ rw e refl
-                                                            | inr n10 ↦
-                                                                elim (cases_eq K 11) [
-                                                                  | inl e ↦ rw e refl
-                                                                  | inr n11 ↦
-                                                                      elim (cases_eq K 12) [
-                                                                        | inl e ↦ elim (cases_Bool (flagged 8 (node_at R i).flags)) [ inl f ↦ rw (e, f) refl | inr f ↦ rw (e, f) refl ]
-                                                                        | inr n12 ↦
-                                                                            elim (cases_eq K 13) [
-                                                                              | inl e ↦ elim (cases_Bool (flagged 8 (node_at R i).flags)) [ inl f ↦ rw (e, f) refl | inr f ↦ rw (e, f) refl ]
-                                                                              | inr n13 ↦
-                                                                                  rw (ne_eqb K 1 n1, ne_eqb K 2 n2, ne_eqb K 3 n3, ne_eqb K 4 n4, ne_eqb K 5 n5, ne_eqb K 6 n6, ne_eqb K 7 n7, ne_eqb K 8 n8, ne_eqb K 9 n9, ne_eqb K 10 n10, ne_eqb K 11 n11, ne_eqb K 12 n12, ne_eqb K 13 n13) refl
-                                                                            ]
-                                                                      ]
-                                                                ]
-                                                          ]
-                                                    ]
-                                              ]
-                                        ]
-                                  ]
-                            ]
-                      ]
-                ]
-          ]
+    elim (cases_Bool (eqb K 1)) [
+      | inl e ↦ rw (eqb-true K 1 e) refl
+      | inr e ↦ rw e
+          (step (eqb K 2) _ _ _ _ refl (step (eqb K 3) _ _ _ _ refl (step (eqb K 4) _ _ _ _ refl (step (eqb K 5) _ _ _ _ (same (eqb (node_at R i).target 1) _ _ _ refl refl)
+          (step (eqb K 6) _ _ _ _ refl (step (eqb K 7) _ _ _ _ refl (step (eqb K 8) _ _ _ _ refl (step (eqb K 9) _ _ _ _ refl (step (eqb K 10) _ _ _ _ refl (step (eqb K 11) _ _ _ _ refl
+          (step (eqb K 12) _ _ _ _ (same (flagged 8 (node_at R i).flags) _ _ _ refl refl) (step (eqb K 13) _ _ _ _ (same (flagged 8 (node_at R i).flags) _ _ _ refl refl) refl))))))))))))
     ]
   where
     K : ℕ
     K = (node_at R i).kind
+
+    -- one number of a kind, and those after it
+    step : (b : Bool) (h g : Head) (k : Kind) (m : Maybe Kind) → has_blocks h ≡ has_body k → has_blocks g ≡ known m has_body → has_blocks (cond b h g) ≡ known (cond b (Some k) m) has_body
+    step true h g k m p q = p
+    step false h g k m p q = q
+
+    -- a kind with two heads
+    same : (b : Bool) (h g : Head) (c : Bool) → has_blocks h ≡ c → has_blocks g ≡ c → has_blocks (cond b h g) ≡ c
+    same true h g c p q = p
+    same false h g c p q = q
 
 -- ## From going through to a tree
 

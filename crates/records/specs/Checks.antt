@@ -1,5 +1,6 @@
 -- When records are refused, and with which number.
-use Rattle.std.specs.Prelude.{ℕ, zero, suc, ◌+◌, ◌-◌, Bool, true, false, cond, not, ◌&&◌, ◌||◌, List, [], ◌∷◌, length, Some, None, Ok, Err, Option as Maybe, Result, ◌==◌, nat_le, nat_lt}
+use Rattle.std.specs.Prelude.{ℕ, zero, suc, ◌+◌, ◌-◌, Bool, true, false, cond, not, ◌&&◌, ◌||◌, List, [], ◌∷◌, drop, length, Some, None, Ok, Err, Option as Maybe, Result, ◌==◌, nat_le, nat_lt}
+use Rattle.std.specs.List.{list_all, enumerate_from}
 use Rattle.std.proofs.Math.Option.{Option, none, some}
 use Rattle.records.specs.declared.refusals.Refusal.{Refusal}
 use Rattle.records.specs.declared.kinds.Kind.{Kind}
@@ -8,6 +9,8 @@ use Rattle.records.specs.declared.kinds.Form.{Form}
 use Rattle.records.specs.declared.kinds.Form.TheVariants.{Unit as UnitForm, True, Opaque, False, Name, AllOf, AnyOf}
 use Rattle.records.specs.declared.kinds.Target.{Target}
 use Rattle.records.specs.declared.kinds.Target.TheVariants.{Variable, Access, Other}
+use Rattle.records.specs.declared.types.Label.{Label}
+use Rattle.records.specs.declared.types.Operator.{Operator}
 use Rattle.records.specs.declared.types.Expr.{Expr as ExprRecord}
 use Rattle.records.specs.declared.types.Node.{Node}
 use Rattle.records.specs.declared.nest.Open.{Open}
@@ -42,6 +45,10 @@ every P (suc k) i = P i && every P k (i + 1)
 abbrev pub each_from1 : (ℕ → Bool) → ℕ → Option ℕ
 each_from1 P count = cond (every P (count - 1) 1) none (some 11)
 
+-- The same of a test of a record with its place.
+abbrev pub each_fault : {X : Type 0} → (ℕ × X → Bool) → List X → Option ℕ
+each_fault test xs = cond (list_all test (drop 1 (enumerate_from 0 xs))) none (some 11)
+
 -- ## Sizes
 
 abbrev pub too_large : Records → Bool
@@ -51,14 +58,19 @@ too_large R =
 
 -- ## Labels and operators
 
--- A label lies within the text.
-abbrev pub label_law : Records → ℕ → Bool
-label_law R i = nat_le ((label_at R i).start + (label_at R i).length) (length R.text)
+-- A label lies within a text of so many bytes.
+abbrev pub label_fits : ℕ → Label → Bool
+label_fits bytes l = nat_le (l.start + l.length) bytes
 
--- Both tokens of an operator have labels.
+abbrev pub label_law : Records → ℕ → Bool
+label_law R i = label_fits (length R.text) (label_at R i)
+
+-- Both tokens of an operator have labels, of so many.
+abbrev pub both_named : ℕ → Operator → Bool
+both_named labels o = names labels o.compound.label && names labels o.binary.label
+
 abbrev pub operator_law : Records → ℕ → Bool
-operator_law R i =
-    names (length R.labels) (operator_at R i).compound.label && names (length R.labels) (operator_at R i).binary.label
+operator_law R i = both_named (length R.labels) (operator_at R i)
 
 -- ## Expressions
 
@@ -83,10 +95,13 @@ abbrev pub expr_law : Records → ℕ → Bool
 expr_law R i = known (form_of (expr_at R i).form) (λ f. form_law f R (expr_at R i) i)
 
 -- An expression's fields are lawful, and if it is a list, its items tile it, inside the table.
+abbrev pub expr_stands : Records → ExprRecord → ℕ → Bool
+expr_stands R e i =
+    known (form_of e.form) (λ f. form_law f R e i
+    && (not (is_list f) || (nat_le e.end (length R.exprs) && tiles R (e.end - (i + 1)) (i + 1) e.end)))
+
 abbrev pub expr_sound : Records → ℕ → Bool
-expr_sound R i =
-    known (form_of (expr_at R i).form) (λ f. form_law f R (expr_at R i) i
-    && (not (is_list f) || (nat_le (expr_at R i).end (length R.exprs) && tiles R ((expr_at R i).end - (i + 1)) (i + 1) (expr_at R i).end)))
+expr_sound R i = expr_stands R (expr_at R i) i
 
 -- ## Statements
 
@@ -146,18 +161,18 @@ abbrev pub node_law : Records → ℕ → Bool
 node_law R i =
     known (kind_of (node_at R i).kind) (λ k. field_law k R (node_at R i) && (shape_law k (node_at R i) i && not (left_out k (node_at R i))))
 
--- The fault of the statement at i, in a block that ends at a limit, with so many statements around it.
-abbrev pub kind_fault : Maybe Kind → Records → ℕ → ℕ → ℕ → Option ℕ
-kind_fault None R i limit depth = some 11
-kind_fault (Some k) R i limit depth =
-    cond (field_law k R (node_at R i) && range_law k (node_at R i) i limit)
-    (cond (left_out k (node_at R i)) (some 12)
+-- The fault of a statement of a kind at i, in a block that ends at a limit, with so many statements around it.
+abbrev pub kind_fault : Maybe Kind → Records → Node → ℕ → ℕ → ℕ → Option ℕ
+kind_fault None R n i limit depth = some 11
+kind_fault (Some k) R n i limit depth =
+    cond (field_law k R n && range_law k n i limit)
+    (cond (left_out k n) (some 12)
     (cond (has_body k && nat_le 64 depth) (some 13)
     none))
     (some 11)
 
 abbrev pub node_fault : Records → ℕ → ℕ → ℕ → Option ℕ
-node_fault R i limit depth = kind_fault (kind_of (node_at R i).kind) R i limit depth
+node_fault R i limit depth = kind_fault (kind_of (node_at R i).kind) R (node_at R i) i limit depth
 
 -- The statements that are still open at i, innermost first: a block that is full is followed by the branch, or closed.
 abbrev pub closed : ℕ → List Open → List Open
@@ -169,6 +184,10 @@ closed i (o ∷ os) =
 abbrev pub limit_of : ℕ → List Open → ℕ
 limit_of count [] = count
 limit_of count (o ∷ os) = o.limit
+
+-- The fault of a statement at i, inside the open ones.
+abbrev pub fault_inside : Records → Node → ℕ → List Open → Option ℕ
+fault_inside R n i os = kind_fault (kind_of n.kind) R n i (limit_of (length R.nodes) os) (length os)
 
 -- A statement that has blocks is open after it was met.
 abbrev pub opened : Records → ℕ → List Open → List Open

@@ -3,5 +3,4 @@ pub mod Meanings
 pub mod Tree
 pub mod Preorder
 pub mod Checks
-pub mod Nesting
 pub mod Accepts

@@ -1,11 +1,12 @@
 -- What the numbers in records mean, and what a kind of statement may have.
-use Rattle.std.specs.Prelude.{ℕ, Bool, true, false, cond, Some, None, Option, ◌==◌}
+use Rattle.std.specs.Prelude.{◌≡◌, ℕ, Bool, true, false, cond, Some, None, Option, Result, MatchResult, ◌==◌}
 use Rattle.records.specs.declared.kinds.Kind.{Kind}
 use Rattle.records.specs.declared.kinds.Kind.TheVariants.{Noop, Var, Expr, FnCall, Assignment, Block, TryCatch, For, If, While, Do, BreakLoop, Return}
 use Rattle.records.specs.declared.kinds.Form.{Form}
 use Rattle.records.specs.declared.kinds.Form.TheVariants.{Unit as UnitForm, True, Opaque, False, Name, AllOf, AnyOf}
 use Rattle.records.specs.declared.kinds.Target.{Target}
 use Rattle.records.specs.declared.kinds.Target.TheVariants.{Variable, Access, Other}
+use Rattle.records.specs.declared.kinds.UnknownNumber.{UnknownNumber}
 
 -- The kind of a statement.
 abbrev pub kind_of : ℕ → Option Kind
@@ -44,6 +45,10 @@ target_of n =
     (cond (n == 2) (Some Access)
     (cond (n == 3) (Some Other)
     None))
+
+-- What a number is read as: what it means, or the number itself where it means nothing.
+abbrev pub Reads : {A : Type 0} → (ℕ → Option A) → ℕ → Result A UnknownNumber → Type 0
+Reads meaning n r = MatchResult r (λ x. meaning n ≡ Some x) (λ e. (meaning n ≡ None) × (e.0 ≡ n))
 
 -- Is a number known, and what it means such as P says?
 abbrev pub known : {A : Type 0} → Option A → (A → Bool) → Bool

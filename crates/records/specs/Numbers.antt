@@ -1,5 +1,6 @@
--- The number of every refusal, and its words: the lists that promises use.
-use Rattle.std.specs.Prelude.{ℕ, List, codes}
+-- The number of every refusal, its words, and what a position prints: the lists that promises use.
+use Rattle.std.specs.Prelude.{ℕ, List, ◌++◌, codes, decimal}
+use Rattle.records.specs.declared.types.Position.{Position}
 use Rattle.records.specs.declared.refusals.Refusal.{Refusal}
 use Rattle.records.specs.declared.refusals.Refusal.TheVariants.{TooLarge, Malformed, LeftOut, TooDeep, BadReuse, OutsideLoop, EvalCall, UnknownExpression, SlotsFull, NoRoom, NoCodeRoom, SlotMemory, QuestionWaits, NoneWaits, Over, WrongCall, NotSettable}
 
@@ -42,3 +43,7 @@ words_of NoneWaits = codes "no question waits"
 words_of Over = codes "the run has ended or is stuck"
 words_of WrongCall = codes "an answer of the wrong kind, or a number out of range"
 words_of NotSettable = codes "a name that is not live or is constant"
+
+-- A position as it is printed: `LINE:COLUMN`.
+abbrev pub position_text : Position → List ℕ
+position_text p = decimal p.line ++ codes ":" ++ decimal p.column

@@ -1,18 +1,20 @@
 // The checks that every later call rests on.
 
-ghost use Rattle.std.specs.Prelude.{◌≡◌, ◌-◌, ◌<◌, ◌≤◌, length, IfOk, Some};
+ghost use Rattle.std.specs.Prelude.{◌≡◌, ℕ, ◌+◌, ◌-◌, ◌^◌, ◌<◌, ◌≤◌, Bool, length, IfOk, Some};
 ghost use Rattle.records.specs.Meanings.{kind_of};
-ghost use Rattle.records.specs.Tree.{records, node_at};
-ghost use Rattle.records.specs.Checks.{answered, names, may_name, size_fault, label_fault, expr_fault, operator_fault, statement_fault, checked, label_law, operator_law, tiles, form_law, expr_sound, target_law, field_law, range_law, left_out, node_fault};
+ghost use Rattle.records.specs.Tree.{records};
+ghost use Rattle.records.specs.Checks.{answered, names, may_name, each_fault, size_fault, label_fault, expr_fault, operator_fault, statement_fault, checked, label_fits, both_named, tiles, form_law, expr_stands, target_law, field_law, range_law, left_out, fault_inside};
+ghost use Rattle.stack64.specs.Listed.{listed};
 ghost use Rattle.records.specs.Accepts.{ByTree, SoundIfOk};
 
 use crate::kinds::{
     BREAK, DEEPEST, EXPORTED, Form, Kind, MOST_BYTES, MOST_EXPRS, MOST_LABELS, MOST_NODES,
     MOST_OPERATORS, MOST_SLOTS, Target,
 };
-use crate::nest::Nest;
+use crate::nest::{Open, close, limit};
 use crate::refusals::Refusal;
-use crate::types::{Expr, Node, Script};
+use crate::types::{Expr, Label, Node, Operator, Script};
+use stack64::Stack64;
 
 // A reference names a record of a table of so many: 0 is absent.
 fn is_record(count: usize, reference: u32) -> bool
@@ -45,12 +47,19 @@ fn check_sizes(script: &Script) -> Result<(), Refusal>
     Ok(())
 }
 
-// A label lies within the text.
-fn label_is_sound(script: &Script, i: usize) -> bool
-    requires { i < length script.now.labels.now }
-    ensures { result ≡ label_law (records script.now) i }
+// Every record of a table is sound, the unused record 0 aside; what is not is malformed.
+fn check_each<T, F: Fn((usize, &T)) -> bool>(table: &[T], is_sound: F) -> Result<(), Refusal>
+    requires { (i : ℕ) (x : _) → i + 1 < 2 ^ 64 → F.pre is_sound (i, x) }
+    ensures { (test : ℕ × T → Bool) → ((i : ℕ) (x : _) (r : Bool) → F.post is_sound (i, x) r → r ≡ test (i, x.now)) → answered result ≡ each_fault test table.now }
 {
-    let label = script.labels[i];
+    let sound = table.iter().enumerate().skip(1).all(is_sound);
+    sound.then_some(()).ok_or(Refusal::Malformed)
+}
+
+// A label lies within the text.
+fn label_is_sound(script: &Script, label: &Label) -> bool
+    ensures { result ≡ label_fits (length script.now.text.now) label.now }
+{
     label.start as usize + label.length as usize <= script.text.len()
 }
 
@@ -58,36 +67,29 @@ fn label_is_sound(script: &Script, i: usize) -> bool
 pub fn check_labels(script: &Script) -> Result<(), Refusal>
     ensures { answered result ≡ label_fault (records script.now) }
 {
-    for i in 1..script.labels.len() {
-        if !label_is_sound(script, i) {
-            return Err(Refusal::Malformed);
-        }
-    }
-    Ok(())
+    check_each(script.labels, |(_, label)| label_is_sound(script, label))
 }
 
 // Both tokens of an operator have labels.
-fn operator_is_sound(script: &Script, i: usize) -> bool
-    requires { i < length script.now.operators.now }
-    ensures { result ≡ operator_law (records script.now) i }
+fn operator_is_sound(script: &Script, operator: &Operator) -> bool
+    ensures { result ≡ both_named (length script.now.labels.now) operator.now }
 {
-    let operator = script.operators[i];
-    is_record(script.labels.len(), operator.compound.label)
-        && is_record(script.labels.len(), operator.binary.label)
+    let labels = script.labels.len();
+    is_record(labels, operator.compound.label) && is_record(labels, operator.binary.label)
 }
 
+// Both tokens of every operator have labels.
 fn check_operators(script: &Script) -> Result<(), Refusal>
     ensures { answered result ≡ operator_fault (records script.now) }
 {
-    for i in 1..script.operators.len() {
-        if !operator_is_sound(script, i) {
-            return Err(Refusal::Malformed);
-        }
-    }
-    Ok(())
+    check_each(
+        script.operators,
+        |(_, operator)| operator_is_sound(script, operator),
+    )
 }
 
 // Hopping from record to record leads exactly to the end of a list.
+// Each hop goes to where a record ends: `successors`, with the test of each hop, is no plainer.
 fn is_tiled(script: &Script, from: usize, end: usize) -> bool
     requires { end ≤ length script.now.exprs.now }
     ensures { result ≡ tiles (records script.now) (end - from) from end }
@@ -105,7 +107,7 @@ fn is_tiled(script: &Script, from: usize, end: usize) -> bool
 
 // What a form asks of its record: a name has a label; a list has items, other forms none.
 fn form_is_lawful(script: &Script, form: Form, expr: &Expr, i: usize) -> bool
-    requires { i < length script.now.exprs.now }
+    requires { i + 1 < 2 ^ 64 }
     ensures { result ≡ form_law form (records script.now) expr.now i }
 {
     match form {
@@ -115,13 +117,13 @@ fn form_is_lawful(script: &Script, form: Form, expr: &Expr, i: usize) -> bool
     }
 }
 
-fn expr_is_sound(script: &Script, i: usize) -> bool
-    requires { i < length script.now.exprs.now }
-    ensures { result ≡ expr_sound (records script.now) i }
+// The fields of the expression at i are lawful, and the items of a list tile it.
+fn expr_is_sound(script: &Script, i: usize, expr: &Expr) -> bool
+    requires { i + 1 < 2 ^ 64 }
+    ensures { result ≡ expr_stands (records script.now) expr.now i }
 {
-    let expr = &script.exprs[i];
     let end = expr.end as usize;
-    let Some(form) = Form::of(expr.form) else {
+    let Ok(form) = Form::try_from(expr.form) else {
         return false;
     };
     form_is_lawful(script, form, expr, i)
@@ -132,12 +134,7 @@ fn expr_is_sound(script: &Script, i: usize) -> bool
 pub fn check_exprs(script: &Script) -> Result<(), Refusal>
     ensures { answered result ≡ expr_fault (records script.now) }
 {
-    for i in 1..script.exprs.len() {
-        if !expr_is_sound(script, i) {
-            return Err(Refusal::Malformed);
-        }
-    }
-    Ok(())
+    check_each(script.exprs, |(i, expr)| expr_is_sound(script, i, expr))
 }
 
 // What the target of an assignment asks for.
@@ -162,9 +159,9 @@ fn fields_are_lawful(script: &Script, kind: Kind, node: &Node) -> bool
         Kind::Var => is_record(exprs, node.expr) && is_record(labels, node.label),
         Kind::Expr | Kind::If | Kind::While | Kind::Do => is_record(exprs, node.expr),
         Kind::FnCall => is_record(labels, node.label),
-        Kind::Assignment => match Target::of(node.target) {
-            Some(target) => is_record(exprs, node.expr) && target_is_lawful(script, target, node),
-            None => false,
+        Kind::Assignment => match Target::try_from(node.target) {
+            Ok(target) => is_record(exprs, node.expr) && target_is_lawful(script, target, node),
+            Err(_) => false,
         },
         Kind::TryCatch => is_record_or_absent(labels, node.label),
         Kind::For => is_record(exprs, node.expr)
@@ -196,33 +193,27 @@ fn is_left_out(kind: Kind, node: &Node) -> bool
 {
     match kind {
         Kind::Var => node.flags & EXPORTED != 0,
-        Kind::Assignment => match Target::of(node.target) {
-            Some(Target::Access) => true,
-            _ => false,
-        },
+        Kind::Assignment => matches!(Target::try_from(node.target), Ok(Target::Access)),
         Kind::For => node.counter != 0,
         Kind::BreakLoop => node.expr != 0 && node.flags & BREAK == 0,
         _ => false,
     }
 }
 
-// The statement at i, in a block that ends at a limit, with so many statements around it: its kind.
-fn check_node(script: &Script, i: usize, limit: usize, depth: usize) -> Result<Kind, Refusal>
-    requires { i < length script.now.nodes.now }
-    ensures answer { answered result ≡ node_fault (records script.now) i limit depth }
-    ensures kind { IfOk result (λ k. kind_of (node_at (records script.now) i).kind ≡ Some k) }
+// The statement at i, inside the open ones: its kind.
+fn check_node(script: &Script, i: usize, node: &Node, nest: &Stack64<Open>) -> Result<Kind, Refusal>
+    ensures answer { answered result ≡ fault_inside (records script.now) node.now i (listed nest.now) }
+    ensures kind { IfOk result (λ k. kind_of node.now.kind ≡ Some k) }
 {
-    let node = &script.nodes[i];
-    let Some(kind) = Kind::of(node.kind) else {
-        return Err(Refusal::Malformed);
-    };
+    let kind = Kind::try_from(node.kind)?;
+    let limit = limit(nest, script.nodes.len());
     if !fields_are_lawful(script, kind, node) || !range_is_lawful(kind, node, i, limit) {
         return Err(Refusal::Malformed);
     }
     if is_left_out(kind, node) {
         return Err(Refusal::LeftOut);
     }
-    if kind.has_body() && depth >= DEEPEST {
+    if kind.has_body() && nest.len() >= DEEPEST {
         return Err(Refusal::TooDeep);
     }
     Ok(kind)
@@ -231,14 +222,17 @@ fn check_node(script: &Script, i: usize, limit: usize, depth: usize) -> Result<K
 fn check_nodes(script: &Script) -> Result<(), Refusal>
     ensures { answered result ≡ statement_fault (records script.now) }
 {
-    let mut nest = Nest::new();
-    for i in 0..script.nodes.len() {
-        nest.close(i);
-        let limit = nest.limit(script.nodes.len());
-        let depth = nest.depth();
-        let kind = check_node(script, i, limit, depth)?;
+    let mut nest = Stack64::new(Open::default());
+    for (i, node) in script.nodes.iter().enumerate() {
+        close(&mut nest, i);
+        let kind = check_node(script, i, node, &nest)?;
         if kind.has_body() {
-            nest.push(script.nodes[i].mid as usize, script.nodes[i].end as usize);
+            let open = Open {
+                limit: node.mid as usize,
+                end: node.end as usize,
+            };
+            // what would have no room was refused as too deep
+            nest.push(open).unwrap();
         }
     }
     Ok(())

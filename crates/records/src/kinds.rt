@@ -1,7 +1,7 @@
 // The numbers that records use, each at this one place.
 
 // What a statement is, by its number from 1.
-#[derive(Clone, Copy)]
+#[derive(Clone, Copy, Debug, PartialEq, Eq)]
 pub enum Kind {
     Noop,
     Var,
@@ -19,7 +19,7 @@ pub enum Kind {
 }
 
 // What an expression is, by its number from 1.
-#[derive(Clone, Copy)]
+#[derive(Clone, Copy, Debug, PartialEq, Eq)]
 pub enum Form {
     Unit,
     True,
@@ -31,12 +31,16 @@ pub enum Form {
 }
 
 // What stands on the left of an assignment, by its number from 1.
-#[derive(Clone, Copy)]
+#[derive(Clone, Copy, Debug, PartialEq, Eq)]
 pub enum Target {
     Variable,
     Access,
     Other,
 }
+
+// A number that stands for no kind, form or target.
+#[derive(Clone, Copy, Debug, PartialEq, Eq)]
+pub struct UnknownNumber(pub u32);
 
 // Flags of a statement.
 pub const CONSTANT: u32 = 1;

@@ -4,14 +4,16 @@
 mod checks;
 mod kinds;
 mod meanings;
+mod names;
 mod nest;
-mod nesting;
+mod printing;
 mod refusals;
 mod types;
 
 pub use checks::{check, check_exprs, check_labels};
 pub use kinds::{
     BREAK, CONSTANT, EXPORTED, Form, Kind, MOST_BYTES, MOST_EXPRS, MOST_LABELS, NEGATED, Target,
+    UnknownNumber,
 };
 pub use refusals::Refusal;
 pub use types::{Expr, Label, Node, Operator, Position, Script, Symbol};

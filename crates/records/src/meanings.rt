@@ -2,99 +2,103 @@
 
 ghost use Rattle.std.specs.Prelude.{◌≡◌};
 ghost use Rattle.records.specs.Numbers.{number_of, words_of};
-ghost use Rattle.records.specs.Meanings.{kind_of, form_of, target_of, has_body, has_branch, is_list};
+ghost use Rattle.records.specs.Meanings.{Reads, kind_of, form_of, target_of, has_body, has_branch, is_list};
 
-use crate::kinds::{Form, Kind, Target};
+use crate::kinds::{Form, Kind, Target, UnknownNumber};
 use crate::refusals::Refusal;
 
-impl Kind {
-    // The kind that a number stands for.
-    pub fn of(number: u32) -> Option<Kind>
-        ensures { result ≡ kind_of number }
-    {
+// The kind that a number stands for.
+impl TryFrom<u32> for Kind {
+    type Error = UnknownNumber;
+
+    ghost try_from_gives = { Reads kind_of };
+
+    fn try_from(number: u32) -> Result<Kind, UnknownNumber> {
         match number {
-            1 => Some(Kind::Noop),
-            2 => Some(Kind::Var),
-            3 => Some(Kind::Expr),
-            4 => Some(Kind::FnCall),
-            5 => Some(Kind::Assignment),
-            6 => Some(Kind::Block),
-            7 => Some(Kind::TryCatch),
-            8 => Some(Kind::For),
-            9 => Some(Kind::If),
-            10 => Some(Kind::While),
-            11 => Some(Kind::Do),
-            12 => Some(Kind::BreakLoop),
-            13 => Some(Kind::Return),
-            _ => None,
+            1 => Ok(Kind::Noop),
+            2 => Ok(Kind::Var),
+            3 => Ok(Kind::Expr),
+            4 => Ok(Kind::FnCall),
+            5 => Ok(Kind::Assignment),
+            6 => Ok(Kind::Block),
+            7 => Ok(Kind::TryCatch),
+            8 => Ok(Kind::For),
+            9 => Ok(Kind::If),
+            10 => Ok(Kind::While),
+            11 => Ok(Kind::Do),
+            12 => Ok(Kind::BreakLoop),
+            13 => Ok(Kind::Return),
+            _ => Err(UnknownNumber(number)),
         }
     }
+}
 
+impl Kind {
     // Has it a body?
     pub(crate) fn has_body(self) -> bool
         ensures { result ≡ has_body self }
     {
-        match self {
-            Kind::Block | Kind::TryCatch | Kind::For | Kind::If | Kind::While | Kind::Do => true,
-            _ => false,
-        }
+        matches!(
+            self,
+            Kind::Block | Kind::TryCatch | Kind::For | Kind::If | Kind::While | Kind::Do
+        )
     }
 
     // May it have a branch?
     pub(crate) fn has_branch(self) -> bool
         ensures { result ≡ has_branch self }
     {
-        match self {
-            Kind::TryCatch | Kind::If => true,
-            _ => false,
+        matches!(self, Kind::TryCatch | Kind::If)
+    }
+}
+
+// The form that a number stands for.
+impl TryFrom<u32> for Form {
+    type Error = UnknownNumber;
+
+    ghost try_from_gives = { Reads form_of };
+
+    fn try_from(number: u32) -> Result<Form, UnknownNumber> {
+        match number {
+            1 => Ok(Form::Unit),
+            2 => Ok(Form::True),
+            3 => Ok(Form::Opaque),
+            4 => Ok(Form::False),
+            5 => Ok(Form::Name),
+            6 => Ok(Form::AllOf),
+            7 => Ok(Form::AnyOf),
+            _ => Err(UnknownNumber(number)),
         }
     }
 }
 
 impl Form {
-    // The form that a number stands for.
-    pub fn of(number: u32) -> Option<Form>
-        ensures { result ≡ form_of number }
-    {
-        match number {
-            1 => Some(Form::Unit),
-            2 => Some(Form::True),
-            3 => Some(Form::Opaque),
-            4 => Some(Form::False),
-            5 => Some(Form::Name),
-            6 => Some(Form::AllOf),
-            7 => Some(Form::AnyOf),
-            _ => None,
-        }
-    }
-
     // Is it a list of items?
     pub(crate) fn is_list(self) -> bool
         ensures { result ≡ is_list self }
     {
-        match self {
-            Form::AllOf | Form::AnyOf => true,
-            _ => false,
-        }
+        matches!(self, Form::AllOf | Form::AnyOf)
     }
 }
 
-impl Target {
-    // The target that a number stands for.
-    pub fn of(number: u32) -> Option<Target>
-        ensures { result ≡ target_of number }
-    {
+// The target that a number stands for.
+impl TryFrom<u32> for Target {
+    type Error = UnknownNumber;
+
+    ghost try_from_gives = { Reads target_of };
+
+    fn try_from(number: u32) -> Result<Target, UnknownNumber> {
         match number {
-            1 => Some(Target::Variable),
-            2 => Some(Target::Access),
-            3 => Some(Target::Other),
-            _ => None,
+            1 => Ok(Target::Variable),
+            2 => Ok(Target::Access),
+            3 => Ok(Target::Other),
+            _ => Err(UnknownNumber(number)),
         }
     }
 }
 
 impl Refusal {
-    // The number that a refusal is known by.
+    // The number that a refusal is known by. (A method: `u32::from(refusal)` would not say which number.)
     pub fn number(&self) -> u32
         ensures { result ≡ number_of self.now }
     {

@@ -1,5 +1,10 @@
+ghost use Rattle.std.specs.Prelude.{◌≡◌};
+ghost use Rattle.records.specs.declared.refusals.Refusal.TheVariants.{Malformed};
+
+use crate::kinds::UnknownNumber;
+
 // Why a call is refused or declined: one list for all calls.
-#[derive(Clone, Copy)]
+#[derive(Clone, Copy, Debug, PartialEq, Eq)]
 pub enum Refusal {
     // 10 to 17: the input
     TooLarge,
@@ -21,4 +26,13 @@ pub enum Refusal {
     Over,
     WrongCall,
     NotSettable,
+}
+
+// Numbers that stand for nothing are against the rules of records.
+impl From<UnknownNumber> for Refusal {
+    ghost from_gives = { λ _ e. e ≡ Malformed };
+
+    fn from(_number: UnknownNumber) -> Refusal {
+        Refusal::Malformed
+    }
 }

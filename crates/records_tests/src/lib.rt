@@ -4,11 +4,9 @@
 
 #[cfg(test)]
 mod tests {
-    use records::{Expr, Label, Node, Operator, Position, Script, Symbol, check};
+    use records::{Expr, Label, Node, Operator, Script, Symbol, check};
     use std::alloc::Global;
     use std::test::Fail;
-
-    const NOWHERE: Position = Position { line: 0, column: 0 };
 
     // Labels of a text of two bytes; record 0 is unused, and would be wrong.
     const LABELS: [Label; 3] = [
@@ -33,23 +31,20 @@ mod tests {
     fn expr(form: u32, end: u32, label: u32) -> Expr {
         Expr {
             form,
-            at: NOWHERE,
-            start: NOWHERE,
             end,
             label,
+            ..Expr::default()
         }
+    }
+
+    fn symbol(label: u32) -> Symbol {
+        Symbol { token: 0, label }
     }
 
     fn operator(compound: u32, binary: u32) -> Operator {
         Operator {
-            compound: Symbol {
-                token: 0,
-                label: compound,
-            },
-            binary: Symbol {
-                token: 0,
-                label: binary,
-            },
+            compound: symbol(compound),
+            binary: symbol(binary),
         }
     }
 
@@ -57,26 +52,18 @@ mod tests {
     fn node(kind: u32, mid: u32, end: u32) -> Node {
         Node {
             kind,
-            flags: 0,
-            at: NOWHERE,
-            mark: NOWHERE,
             mid,
             end,
             expr: 1,
             label: 1,
-            counter: 0,
-            reuse: 0,
             target: 1,
-            operator: 0,
+            ..Node::default()
         }
     }
 
-    // The number of a refusal, or 0.
+    // The number of a refusal, or 0: numbers are what is promised, and tables of cases read so.
     fn told(script: &Script) -> u32 {
-        match check(script) {
-            Ok(()) => 0,
-            Err(e) => e.number(),
-        }
+        check(script).err().map_or(0, |refusal| refusal.number())
     }
 
     // A text and its labels, and nothing else.
@@ -166,24 +153,14 @@ mod tests {
     }
 
     // Four expressions, by form and end.
-    fn told_four(e: [(u32, u32); 4]) -> u32 {
-        let unused = expr(9, 9, 9);
-        told_exprs(&[
-            unused,
-            expr(e[0].0, e[0].1, 0),
-            expr(e[1].0, e[1].1, 0),
-            expr(e[2].0, e[2].1, 0),
-            expr(e[3].0, e[3].1, 0),
-        ])
+    fn told_four(four: [(u32, u32); 4]) -> u32 {
+        let [a, b, c, d] = four.map(|(form, end)| expr(form, end, 0));
+        told_exprs(&[expr(9, 9, 9), a, b, c, d])
     }
 
     // Three statements, by kind, mid and end.
-    fn told_three(n: [(u32, u32, u32); 3]) -> u32 {
-        told_nodes(&[
-            node(n[0].0, n[0].1, n[0].2),
-            node(n[1].0, n[1].1, n[1].2),
-            node(n[2].0, n[2].1, n[2].2),
-        ])
+    fn told_three(three: [(u32, u32, u32); 3]) -> u32 {
+        told_nodes(&three.map(|(kind, mid, end)| node(kind, mid, end)))
     }
 
     // Start, length and slot limit; the number.
@@ -204,17 +181,15 @@ mod tests {
 
     #[test]
     fn slot_limits_and_labels(rt: HostRuntime) {
-        for row in &LABEL_ROWS {
-            assert_eq!(rt;
-                told_labels(&[label(9, 9), label(0, 1), label(row.0, row.1)], row.2),
-                row.3
-            );
+        for (start, length, limit, number) in LABEL_ROWS {
+            let labels = [label(9, 9), label(0, 1), label(start, length)];
+            assert_eq!(rt; told_labels(&labels, limit), number);
         }
     }
 
     #[test]
     fn operators_have_two_labels(rt: HostRuntime) {
-        for row in &[
+        for (compound, binary, number) in [
             (1, 2, 0),
             (0, 2, 11),
             (1, 0, 11),
@@ -222,10 +197,8 @@ mod tests {
             (3, 1, 11),
             (u32::MAX, 1, 11),
         ] {
-            assert_eq!(rt;
-                told_operators(&[operator(9, 9), operator(1, 1), operator(row.0, row.1)]),
-                row.2
-            );
+            let operators = [operator(9, 9), operator(1, 1), operator(compound, binary)];
+            assert_eq!(rt; told_operators(&operators), number);
         }
     }
 
@@ -248,8 +221,8 @@ mod tests {
 
     #[test]
     fn forms_of_expressions(rt: HostRuntime) {
-        for row in &FORM_ROWS {
-            assert_eq!(rt; told_form(row.0, row.1), row.2);
+        for (form, label, numbers) in FORM_ROWS {
+            assert_eq!(rt; told_form(form, label), numbers);
         }
     }
 
@@ -272,8 +245,8 @@ mod tests {
 
     #[test]
     fn lists_are_tiled(rt: HostRuntime) {
-        for row in &LIST_ROWS {
-            assert_eq!(rt; told_four(row.0), row.1);
+        for (four, number) in LIST_ROWS {
+            assert_eq!(rt; told_four(four), number);
         }
     }
 
@@ -299,20 +272,15 @@ mod tests {
 
     #[test]
     fn fields_of_kinds(rt: HostRuntime) {
-        let mut kind = 0;
-        for row in &KIND_ROWS {
-            let all = told_fields(kind, 8, 1, 1);
+        for (kind, numbers) in (0u32..).zip(KIND_ROWS) {
             let told = [
-                all,
+                told_fields(kind, 8, 1, 1),
                 told_fields(kind, 8, 0, 1),
                 told_fields(kind, 8, 3, 1),
                 told_fields(kind, 8, 1, 0),
                 told_fields(kind, 8, 1, 3),
             ];
-            assert_eq!(rt; told, *row);
-            if kind < 14 {
-                kind += 1;
-            }
+            assert_eq!(rt; told, numbers);
         }
     }
 
@@ -330,8 +298,8 @@ mod tests {
 
     #[test]
     fn targets(rt: HostRuntime) {
-        for row in &ASSIGN_ROWS {
-            assert_eq!(rt; told_assign(row.0, row.1, row.2), row.3);
+        for (target, label, operator, number) in ASSIGN_ROWS {
+            assert_eq!(rt; told_assign(target, label, operator), number);
         }
     }
 
@@ -348,30 +316,24 @@ mod tests {
 
     #[test]
     fn what_is_left_out(rt: HostRuntime) {
-        for row in &LEFT_OUT_ROWS {
-            assert_eq!(rt; told_fields(row.0, row.1, 1, row.2), row.3);
+        for (kind, flags, label, number) in LEFT_OUT_ROWS {
+            assert_eq!(rt; told_fields(kind, flags, 1, label), number);
         }
-        assert_eq!(rt;
-            told_nodes(&[Node {
-                counter: 1,
+        // a loop with a counter, and with one past the labels
+        for (counter, number) in [(1, 12), (3, 11)] {
+            let counted = Node {
+                counter,
                 ..node(8, 1, 1)
-            }],),
-            12
-        );
-        assert_eq!(rt;
-            told_nodes(&[Node {
-                counter: 3,
-                ..node(8, 1, 1)
-            }],),
-            11
-        );
+            };
+            assert_eq!(rt; told_nodes(&[counted]), number);
+        }
     }
 
     #[test]
     fn ranges_of_blocks(rt: HostRuntime) {
         for kind in 1u32..14 {
-            let blocks = if kind >= 6 && kind <= 11 { 0 } else { 11 };
-            let branches = if kind == 7 || kind == 9 { 0 } else { 11 };
+            let blocks = if matches!(kind, 6..=11) { 0 } else { 11 };
+            let branches = if matches!(kind, 7 | 9) { 0 } else { 11 };
             assert_eq!(rt;
                 [
                     told_ranges(kind, 1, 1),
@@ -408,8 +370,8 @@ mod tests {
 
     #[test]
     fn blocks_are_tiled(rt: HostRuntime) {
-        for row in &BLOCK_ROWS {
-            assert_eq!(rt; told_three(row.0), row.1);
+        for (three, number) in BLOCK_ROWS {
+            assert_eq!(rt; told_three(three), number);
         }
         // the first fault in the order of records
         let exported = Node {
@@ -428,11 +390,8 @@ mod tests {
 
     // So many blocks inside one another, and in the innermost one statement more.
     fn told_nested(heap: Global, depth: u16, last: Node) -> Result<u32, Fail> {
-        let mut nodes = Vec::new(heap);
         let end = u32::from(depth) + 1;
-        for _ in 0..depth {
-            nodes.push(node(6, end, end))?;
-        }
+        let mut nodes = vec![in heap; node(6, end, end); usize::from(depth)]?;
         nodes.push(last)?;
         Ok(told_nodes(&nodes))
     }
@@ -456,6 +415,7 @@ mod tests {
         Ok(())
     }
 
+    // Three tables filled to their limits: the field that is filled would be one closure more.
     fn told_text(heap: Global, bytes: usize) -> Result<u32, Fail> {
         let text = vec![in heap; 0u8; bytes]?;
         Ok(told(&Script {
@@ -477,18 +437,15 @@ mod tests {
 
     // Statements one after another.
     fn told_many_nodes(heap: Global, count: u32) -> Result<u32, Fail> {
-        let mut nodes = Vec::new(heap);
-        for i in 0..count {
-            nodes.push(node(1, i + 1, i + 1))?;
-        }
+        let nodes: Vec<Node> = (1..=count).map(|end| node(1, end, end)).collect(heap)?;
         Ok(told_nodes(&nodes))
     }
 
     // Lists of one item, each inside the one before.
     fn told_many_exprs(heap: Global, count: u32) -> Result<u32, Fail> {
-        let mut exprs = Vec::new(heap);
-        for i in 0..count {
-            exprs.push(expr(if i + 1 == count { 1 } else { 6 }, count, 0))?;
+        let mut exprs = vec![in heap; expr(6, count, 0); count as usize]?;
+        if let Some(last) = exprs.last_mut() {
+            last.form = 1;
         }
         Ok(told_exprs(&exprs))
     }

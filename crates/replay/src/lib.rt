@@ -4,7 +4,8 @@
 ghost use Rattle.std.specs.Prelude.{◌≡◌, min, map, length, take, drop, replicate};
 ghost use Rattle.meaning.specs.Calls.{after_calls, loaded, replies};
 ghost use Rattle.player.specs.Replies.{call_of, reply_of};
-ghost use Rattle.player.specs.States.{Kept, state};
+ghost use Rattle.player.specs.Players.{Kept};
+ghost use Rattle.player.specs.States.{state};
 ghost use Rattle.slot_memory.specs.Memory.{blank_slot};
 
 use code::{Instr, Row, Slot};
@@ -19,6 +20,7 @@ pub fn perform_all(player: &mut Player<'_>, calls: &[Call], out: &mut [Reply]) -
     ensures rest { drop result out.new ≡ drop result out.old }
 {
     let count = calls.len().min(out.len());
+    // by place: what the elements of `out` became is not told of its `iter_mut` under `zip`
     for i in 0..count {
         out[i] = player.perform(calls[i]);
     }

@@ -1,6 +1,8 @@
 -- The scan finds what the tree has.
 use Rattle.std.proofs.Common.{◌≡◌, ℕ, ◌+◌, ◌<◌, ◌≤◌, Bool, true, false, cond, not, ◌&&◌, ◌||◌, eqb, Some, None, Option, sym, refl, ◌∙◌, subst, arith, eqb-true}
 use borrow.Author.Tests.{clash}
+use Rattle.std.proofs.Math.Bool.{or_assoc, or-false}
+use Rattle.std.proofs.lemmas.Bool.{and_parts}
 use Rattle.records.specs.declared.kinds.Kind.{Kind}
 use Rattle.records.specs.declared.kinds.Kind.TheVariants.{Noop, Var, Expr, FnCall, Assignment, Block, TryCatch, For, If, While, Do, BreakLoop, Return}
 use Rattle.records.specs.Meanings.{kind_of, known, has_body, has_branch}
@@ -41,16 +43,7 @@ module _ (R : Records) (to : ℕ) where
   pub found-next : (i : ℕ) (r : Bool) → Finds R to i r → i < to → false ≡ valued_break (node_at R i) → false ≡ loop_node (node_at R i) → Finds R to (i + 1) r
   found-next i r p h e f = subst (λ (b : Bool). Finds R to (cond b (node_at R i).end (i + 1)) r) (sym f) (found-on i r p h e)
 
-  pub found-end : (i : ℕ) (r : Bool) → Finds R to i r → to ≤ i → false ≡ r
-  found-end i r (over l) h = refl
-  found-end i r (hit l f) h = absurd (omega arith)
-  found-end i r (pass l f p) h = absurd (omega arith)
-
   -- ## The tree's records
-
-  or_assoc : (a b c : Bool) → a || (b || c) ≡ (a || b) || c
-  or_assoc true b c = refl
-  or_assoc false b c = refl
 
   -- What a lawful node is: of a known kind, its ranges as the kind wants them.
   record Kinded (i : ℕ) : Type 0 where
@@ -58,22 +51,18 @@ module _ (R : Records) (to : ℕ) where
     is : kind_of (node_at R i).kind ≡ Some kind
     shape : shape_law kind (node_at R i) i ≡ true
 
-  both : (a b : Bool) → a && b ≡ true → (a ≡ true) × (b ≡ true)
-  both true b e = (refl, e)
-  both false b e = absurd (clash e)
-
   kinded : (i : ℕ) → node_law R i ≡ true → Kinded i
   kinded i e = go (kind_of (node_at R i).kind) refl e
     where
       go : (o : Option Kind) → kind_of (node_at R i).kind ≡ o → known o (λ k. field_law k R (node_at R i) && (shape_law k (node_at R i) i && not (left_out k (node_at R i)))) ≡ true → Kinded i
       go None q f = absurd (clash f)
-      go (Some k) q f = record { kind = k; is = q; shape = (both _ _ (both _ _ f).1).0 }
+      go (Some k) q f = record { kind = k; is = q; shape = (and_parts _ _ (and_parts _ _ f).1).0 }
 
   -- A statement without blocks ends at the next node.
   leaf-end : (i : ℕ) (k : Kind) → has_body k ≡ false → shape_law k (node_at R i) i ≡ true → (node_at R i).end ≡ i + 1
   leaf-end i k b e =
       let f : eqb (node_at R i).mid (i + 1) && eqb (node_at R i).end (i + 1) ≡ true = subst (λ (x : Bool). cond x (has_branch k || eqb (node_at R i).mid (node_at R i).end) (eqb (node_at R i).mid (i + 1) && eqb (node_at R i).end (i + 1)) ≡ true) b e in
-      eqb-true _ _ (both _ _ f).1
+      eqb-true _ _ (and_parts _ _ f).1
 
   -- One step of the scan, at a node of a known kind.
   module _ (i : ℕ) (k : Kind) (is : kind_of (node_at R i).kind ≡ Some k) (l : i < to) where
@@ -124,9 +113,9 @@ module _ (R : Records) (to : ℕ) where
       go false f = rw f (leaf-on a Assignment is l r refl refl refl s e)
   at-kind a B C r Block is s l e m b =
       step_in a Block is l (B || r) refl refl (b r (subst (λ (n : ℕ). Finds R to n r) (sym (no-branch a Block refl refl s)) e))
-  at-kind a B C r TryCatch is s l e m b = subst (λ (x : Bool). Finds R to a x) (or_assoc B C r) (step_in a TryCatch is l (B || (C || r)) refl refl (b (C || r) m))
+  at-kind a B C r TryCatch is s l e m b = subst (λ (x : Bool). Finds R to a x) (sym (or_assoc B C r)) (step_in a TryCatch is l (B || (C || r)) refl refl (b (C || r) m))
   at-kind a B C r For is s l e m b = loop-on a For is l r refl refl e
-  at-kind a B C r If is s l e m b = subst (λ (x : Bool). Finds R to a x) (or_assoc B C r) (step_in a If is l (B || (C || r)) refl refl (b (C || r) m))
+  at-kind a B C r If is s l e m b = subst (λ (x : Bool). Finds R to a x) (sym (or_assoc B C r)) (step_in a If is l (B || (C || r)) refl refl (b (C || r) m))
   at-kind a B C r While is s l e m b = loop-on a While is l r refl refl e
   at-kind a B C r Do is s l e m b = loop-on a Do is l r refl refl e
   at-kind a B C r BreakLoop is s l e m b = break-on a B C r is s l e
@@ -153,12 +142,8 @@ module _ (R : Records) (to : ℕ) where
     finds nil a b r p l q = subst (λ (n : ℕ). Finds R to n r) (sym p) q
     finds (more s f) a b r p l q =
         let u = forest-le (statements R) f p.0 b p.2 in
-        subst (λ (x : Bool). Finds R to a x) (or_assoc (breaks_s s) (has_break_value f) r) (finds-tree s a p.0 (has_break_value f || r) p.1 (omega arith) (finds f p.0 b r p.2 l q))
+        subst (λ (x : Bool). Finds R to a x) (sym (or_assoc (breaks_s s) (has_break_value f) r)) (finds-tree s a p.0 (has_break_value f || r) p.1 (omega arith) (finds f p.0 b r p.2 l q))
 
   -- A whole block.
   pub finds-block : (f : Forest Head) (a : ℕ) → ForestAt (statements R) f a to → Finds R to a (has_break_value f)
   finds-block f a p = subst (λ (x : Bool). Finds R to a x) (or-false (has_break_value f)) (finds f a to false p (omega arith) (over (omega arith)))
-    where
-      or-false : (b : Bool) → b || false ≡ b
-      or-false true = refl
-      or-false false = refl

@@ -14,20 +14,19 @@ use records::{BREAK, Kind, Node, Script};
 fn is_loop(node: &Node) -> bool
     ensures { result ≡ loop_node node.now }
 {
-    match Kind::of(node.kind) {
-        Some(Kind::For | Kind::While | Kind::Do) => true,
-        _ => false,
-    }
+    matches!(
+        Kind::try_from(node.kind),
+        Ok(Kind::For | Kind::While | Kind::Do)
+    )
 }
 
 // Is a statement a `break` with a value?
 fn is_valued_break(node: &Node) -> bool
     ensures { result ≡ valued_break node.now }
 {
-    match Kind::of(node.kind) {
-        Some(Kind::BreakLoop) => node.flags & BREAK != 0 && node.expr != 0,
-        _ => false,
-    }
+    matches!(Kind::try_from(node.kind), Ok(Kind::BreakLoop))
+        && node.flags & BREAK != 0
+        && node.expr != 0
 }
 
 // Does a `break` with a value belong to the loop whose body is the block from one node up to before another? A loop
@@ -38,6 +37,7 @@ pub fn has_break_value(script: &Script, from: usize, to: usize) -> bool
     ensures { result ≡ has_break_value (block_from (records script.now) from to) }
 {
     let mut i = from;
+    // a step goes past a whole loop: `successors` with `take_while` would be no plainer
     while i < to {
         let node = &script.nodes[i];
         if is_valued_break(node) {

@@ -1,8 +1,10 @@
 -- All pieces stand and all targets are moved: the set code stands.
-use Rattle.std.proofs.Common.{◌≡◌, ℕ, zero, suc, ◌+◌, ◌-◌, ◌<◌, ◌≤◌, Bool, true, false, cond, ltb, List, [], ◌∷◌, ◌++◌, length, get_or, take, drop, replicate, Some, None, Ok, Err, Option, Result, sym, refl, ap, ◌∙◌, ap₂, append_assoc, arith, length-append, take-append-drop, take_at, ltb-true, lt-ltb}
+use Rattle.std.proofs.Common.{◌≡◌, ℕ, zero, suc, ◌+◌, ◌-◌, ◌<◌, ◌≤◌, Bool, true, false, cond, ltb, List, [], ◌∷◌, ◌++◌, length, get_or, take, drop, replicate, Some, None, Ok, Err, Option, Result, sym, refl, ap, ◌∙◌, ap₂, append_assoc, arith, length-append, take-append-drop, take_at, ltb-true}
+use Rattle.std.specs.Result.{result_unwrap_or}
 use lib.Seq.{set_at}
 use Rattle.std.proofs.lemmas.List.{length-take-le}
-use Rattle.std.proofs.lemmas.Bool.{and_parts, and_from}
+use Rattle.std.proofs.lemmas.Bool.{and_parts}
+use Rattle.std.proofs.lemmas.Bool.Decides.{nat_tests}
 use Rattle.code.specs.declared.ops.Op.{Op}
 use Rattle.code.specs.declared.ops.Op.TheVariants.{Unit as UnitOp, Bool as BoolOp, StoreLocal, LoadNamed, AssignNamed, AssignLocal, DeclareLocal, Pop, Jump, JumpIfTrue, JumpIfFalse, Rotate, UnwindTo, Tick, Checkpoint, EvalAst, PushHandler, PopHandler, IterInit, IterNext, IterDrop, StoreShared, Throw, Return, EvalExpr, Foreign}
 use Rattle.code.specs.declared.ops.Instr.{Instr}
@@ -17,15 +19,9 @@ use Rattle.setting.specs.Set.{numbered, fault, outcome, kept, padded, blank, mov
 
 -- ## Targets inside more places
 
-fine_more : (n m : ℕ) → n ≤ m → (o : Option ℕ) → target_fine n o ≡ true → target_fine m o ≡ true
-fine_more n m h None e = refl
-fine_more n m h (Some t) e = lt-ltb t m (omega (arith, ltb-true t n e))
-
 pub targets-more : (n m : ℕ) → n ≤ m → (xs : List Instr) → targets_fine n xs ≡ true → targets_fine m xs ≡ true
 targets-more n m h [] e = refl
-targets-more n m h (x ∷ xs) e =
-    let p = and_parts (target_fine n (target_of x.op)) (targets_fine n xs) e in
-    and_from (target_fine m (target_of x.op)) (targets_fine m xs) (fine_more n m h (target_of x.op) p.0) (targets-more n m h xs p.1)
+targets-more n m h (x ∷ xs) e = let rest = targets-more n m h xs in grind (arith, nat_tests, rest)
 
 -- ## Maps of places that agree on all targets
 
@@ -156,11 +152,6 @@ module _ (W : Writer) (rows : List Row) where
 
 -- ## The call
 
--- How much of the code is kept.
-abbrev pub counted : Result ℕ Refusal → ℕ
-counted (Ok n) = n
-counted (Err e) = 0
-
 -- What the call answers and leaves, where the code stands and all past it is blank.
 module _ (W : Writer) (R : Records) (names : List ℕ) (ops : List Instr) (rows : List Row) (places room : ℕ) (a b : List Instr) where
   abbrev why : Option ℕ
@@ -174,7 +165,7 @@ module _ (W : Writer) (R : Records) (names : List ℕ) (ops : List Instr) (rows 
     rest : n ≤ room → b ≡ take n a ++ replicate (room - n) blank
     rest h = blanked blank a b n (omega arith) long past before ∙ ap (λ (k : ℕ). take n a ++ replicate (k - n) blank) same
 
-    pub ends : (r : Result ℕ Refusal) → n ≡ counted r → SetDone W R names ops rows places room r a → Ends r
+    pub ends : (r : Result ℕ Refusal) → n ≡ result_unwrap_or r 0 → SetDone W R names ops rows places room r a → Ends r
     ends (Ok m) is d =
         let code : take n a ≡ set_code W rows ops = ap (λ (k : ℕ). take k a) is ∙ d.2 in
         let size : length (set_code W rows ops) ≡ n = ap length (sym code) ∙ length-take-le n a (omega (arith, d.1)) in

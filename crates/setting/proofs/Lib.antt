@@ -1,4 +1,3 @@
-pub mod Alls
 pub mod Segments
 pub mod Pieces
 pub mod Faults

@@ -3,7 +3,9 @@
 
 mod call;
 mod checks;
+mod compiled;
 mod places;
-mod targets;
+mod residual;
 
 pub use call::set;
+pub use compiled::Compiled;

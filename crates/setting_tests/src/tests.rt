@@ -1,12 +1,11 @@
 use crate::units::Units;
 use code::{Instr, Op, Row};
 use records::{Expr, Label, Position, Script};
-use setting::set;
+use setting::{Compiled, set};
+use std::array;
 use std::process::Abort;
 use std::test::Fail;
 use writers::{Whole, Writer, Written};
-
-const NOWHERE: Position = Position { line: 0, column: 0 };
 
 fn at(column: u16) -> Position {
     Position { line: 1, column }
@@ -14,7 +13,7 @@ fn at(column: u16) -> Position {
 
 // An operation without a position; at a column.
 fn op(op: Op) -> Instr {
-    Instr { op, at: NOWHERE }
+    Instr::bare(op)
 }
 
 fn op_at(op: Op, column: u16) -> Instr {
@@ -39,19 +38,33 @@ fn expr(form: u32, column: u16, end: u32, label: u32) -> Expr {
     Expr {
         form,
         at: at(column),
-        start: NOWHERE,
+        start: Position::NONE,
         end,
         label,
     }
 }
 
-// Operations with what they speak of.
-#[derive(Clone, Copy)]
-struct Code<'a> {
-    script: Script<'a>,
-    names: &'a [u32],
-    ops: &'a [Instr],
-    rows: &'a [Row],
+// The record that is unused.
+fn unused() -> Expr {
+    expr(0, 0, 0, 0)
+}
+
+// One opaque expression; two, one after the other.
+fn one_expr() -> [Expr; 2] {
+    [unused(), expr(3, 3, 2, 0)]
+}
+
+fn two_exprs() -> [Expr; 3] {
+    [unused(), expr(3, 3, 2, 0), expr(3, 7, 3, 0)]
+}
+
+// The declaration of the first name.
+fn declare() -> Instr {
+    op(Op::DeclareLocal {
+        name: 0,
+        is_const: false,
+        is_global: false,
+    })
 }
 
 fn script<'a>(text: &'a [u8], labels: &'a [Label], exprs: &'a [Expr]) -> Script<'a> {
@@ -66,127 +79,51 @@ fn script<'a>(text: &'a [u8], labels: &'a [Label], exprs: &'a [Expr]) -> Script<
     }
 }
 
-// An operation as a number of its own and an operand.
-fn told(op: Op) -> (u32, u32) {
-    match op {
-        Op::Unit => (1, 0),
-        Op::Bool(value) => (2, u32::from(value)),
-        Op::StoreLocal { slot, .. } => (3, u32::from(slot)),
-        Op::LoadNamed(name) => (4, name),
-        Op::DeclareLocal { name, .. } => (5, name),
-        Op::Jump(target) => (6, target),
-        Op::JumpIfTrue { target } => (7, target),
-        Op::JumpIfFalse { target } => (8, target),
-        Op::Rotate(count) => (9, u32::from(count)),
-        Op::UnwindTo(depth) => (10, u32::from(depth)),
-        Op::Tick => (11, 0),
-        Op::EvalAst { residual, .. } => (12, residual),
-        Op::PushHandler { target, .. } => (13, target),
-        Op::PopHandler => (14, 0),
-        Op::IterInit => (15, 0),
-        Op::IterNext { exit, .. } => (16, exit),
-        Op::IterDrop => (17, 0),
-        Op::StoreShared(slot) => (18, u32::from(slot)),
-        Op::Return => (19, 0),
-        Op::EvalExpr(expr) => (20, expr),
-        _ => (0, 0),
-    }
-}
-
-fn same(a: Instr, b: Instr) -> bool {
-    let (number, operand) = told(a.op);
-    let (other, its) = told(b.op);
-    number == other && operand == its && a.at.line == b.at.line && a.at.column == b.at.column
-}
-
-// All of a slice are blank.
 fn is_blank(code: &[Instr]) -> bool {
-    for x in code {
-        if !same(*x, op(Op::Unit)) {
-            return false;
-        }
-    }
-    true
+    code.iter().all(|x| *x == op(Op::Unit))
 }
 
-// A slice begins with this code, and is blank after it.
-fn is_set(code: &[Instr], want: &[Instr]) -> bool {
-    if code.len() < want.len() {
-        return false;
-    }
-    for i in 0..want.len() {
-        if !same(code[i], want[i]) {
-            return false;
-        }
-    }
-    is_blank(&code[want.len()..])
-}
-
-// No remembered place is left.
-fn is_forgotten(places: &[u32]) -> bool {
-    for place in places {
-        if *place != 0 {
-            return false;
-        }
-    }
-    true
-}
-
-// What setting answers in memory that held something else: the count, or 1000 and the number of a refusal. The code
-// must be as wanted, with blanks after it, or all blank; the places must be forgotten.
-fn answer<W: Writer>(
+// Sets code in memory that held something else: the code at the start, or the number of a refusal. None where what is past
+// the code, or after a refusal anything, is not blank, or a place is still remembered.
+fn answer<'a, W: Writer>(
     writer: &W,
-    code: &Code,
-    want: &[Instr],
+    code: &Compiled,
+    places: &mut [u32],
+    out: &'a mut [Instr],
+) -> Option<Result<&'a [Instr], u32>> {
+    let result = set(writer, code, places, out);
+    let (code, rest) = out.split_at_checked(result.unwrap_or(0))?;
+    if !is_blank(rest) || places.iter().any(|place| *place != 0) {
+        return None;
+    }
+    Some(result.map(|_| code).map_err(|why| why.number()))
+}
+
+// Is the answer what is wanted?
+fn gives<W: Writer>(
+    writer: &W,
+    code: &Compiled,
     places: &mut [u32],
     out: &mut [Instr],
-) -> usize {
-    let result = set(
-        writer,
-        &code.script,
-        code.names,
-        code.ops,
-        code.rows,
-        places,
-        out,
-    );
-    if !is_forgotten(places) {
-        return 9999;
-    }
-    match result {
-        Ok(count) => {
-            if count == want.len() && is_set(out, want) {
-                count
-            } else {
-                9998
-            }
-        }
-        Err(refusal) => {
-            if is_blank(out) {
-                1000 + refusal.number() as usize
-            } else {
-                9997
-            }
-        }
-    }
+    want: Result<&[Instr], u32>,
+) -> bool {
+    answer(writer, code, places, out) == Some(want)
 }
 
-// In plenty of memory.
-fn plenty<W: Writer>(writer: &W, code: &Code, want: &[Instr]) -> usize {
-    let mut places = [7; 32];
-    let mut out = [op(Op::Tick); 96];
-    answer(writer, code, want, &mut places, &mut out)
+// The same in plenty of memory.
+fn plenty<W: Writer>(writer: &W, code: &Compiled, want: Result<&[Instr], u32>) -> bool {
+    gives(writer, code, &mut [7; 32], &mut [op(Op::Tick); 96], want)
 }
 
 // The same under both writers, which agree where all expressions are opaque.
-fn both(rt: &impl Abort, code: &Code, want: &[Instr]) {
-    assert_eq!(rt; plenty(&Whole, code, want), want.len());
-    assert_eq!(rt; plenty(&Written, code, want), want.len());
+fn both(rt: &impl Abort, code: &Compiled, want: &[Instr]) {
+    assert!(rt; plenty(&Whole, code, Ok(want)));
+    assert!(rt; plenty(&Written, code, Ok(want)));
 }
 
 // Code of opaque expressions alone.
-fn opaque<'a>(exprs: &'a [Expr], ops: &'a [Instr], rows: &'a [Row]) -> Code<'a> {
-    Code {
+fn opaque<'a>(exprs: &'a [Expr], ops: &'a [Instr], rows: &'a [Row]) -> Compiled<'a> {
+    Compiled {
         script: script(&[], &[], exprs),
         names: &[],
         ops,
@@ -203,7 +140,7 @@ fn an_empty_script(rt: HostRuntime) {
 // if e {v}
 #[test]
 fn an_if(rt: HostRuntime) {
-    let exprs = [expr(0, 0, 0, 0), expr(3, 3, 2, 0), expr(3, 7, 3, 0)];
+    let exprs = two_exprs();
     let ops = [
         eval(0),
         op_at(Op::JumpIfFalse { target: 4 }, 3),
@@ -226,7 +163,7 @@ fn an_if(rt: HostRuntime) {
 // while c {break v;}
 #[test]
 fn a_while(rt: HostRuntime) {
-    let exprs = [expr(0, 0, 0, 0), expr(3, 3, 2, 0), expr(3, 7, 3, 0)];
+    let exprs = two_exprs();
     let ops = [
         op_at(Op::Tick, 2),
         eval(0),
@@ -248,16 +185,12 @@ fn a_while(rt: HostRuntime) {
 // for x in e {try {break;} catch {}}
 #[test]
 fn a_for_with_try(rt: HostRuntime) {
-    let exprs = [expr(0, 0, 0, 0), expr(3, 3, 2, 0)];
+    let exprs = one_expr();
     let ops = [
         eval(0),
         op_at(Op::IterInit, 4),
         op(Op::Unit),
-        op(Op::DeclareLocal {
-            name: 0,
-            is_const: false,
-            is_global: false,
-        }),
+        declare(),
         op_at(Op::Tick, 2),
         op_at(
             Op::IterNext {
@@ -295,7 +228,7 @@ fn a_for_with_try(rt: HostRuntime) {
 #[test]
 fn a_loop_with_a_late_break(rt: HostRuntime) {
     let exprs = [
-        expr(0, 0, 0, 0),
+        unused(),
         expr(1, 3, 2, 0),
         expr(3, 7, 3, 0),
         expr(3, 11, 4, 0),
@@ -327,7 +260,7 @@ fn a_loop_with_a_late_break(rt: HostRuntime) {
 // do {} until c
 #[test]
 fn a_do_until(rt: HostRuntime) {
-    let exprs = [expr(0, 0, 0, 0), expr(3, 3, 2, 0)];
+    let exprs = one_expr();
     let ops = [
         op_at(Op::Tick, 2),
         eval(0),
@@ -343,14 +276,10 @@ fn a_do_until(rt: HostRuntime) {
 // let x; let x reusing the first
 #[test]
 fn a_reuse(rt: HostRuntime) {
-    let exprs = [expr(0, 0, 0, 0), expr(3, 3, 2, 0), expr(3, 7, 3, 0)];
+    let exprs = two_exprs();
     let ops = [
         eval(0),
-        op(Op::DeclareLocal {
-            name: 0,
-            is_const: false,
-            is_global: false,
-        }),
+        declare(),
         eval(1),
         op(Op::StoreLocal {
             slot: 0,
@@ -382,8 +311,13 @@ const LABELS: [Label; 3] = [
 ];
 
 // Code whose expressions have names.
-fn named<'a>(exprs: &'a [Expr], ops: &'a [Instr], rows: &'a [Row], names: &'a [u32]) -> Code<'a> {
-    Code {
+fn named<'a>(
+    exprs: &'a [Expr],
+    ops: &'a [Instr],
+    rows: &'a [Row],
+    names: &'a [u32],
+) -> Compiled<'a> {
+    Compiled {
         script: script(b"ab", &LABELS, exprs),
         names,
         ops,
@@ -394,7 +328,7 @@ fn named<'a>(exprs: &'a [Expr], ops: &'a [Instr], rows: &'a [Row], names: &'a [u
 // All of b, any of (an opaque one, all of (true)), a.
 fn nested() -> [Expr; 8] {
     [
-        expr(0, 0, 0, 0),
+        unused(),
         expr(6, 11, 8, 0),
         expr(5, 12, 3, 2),
         expr(7, 13, 7, 0),
@@ -449,11 +383,11 @@ fn lists_in_lists(rt: HostRuntime) {
     let rows = [row(1)];
     let names = [2];
     let code = named(&exprs, &ops, &rows, &names);
-    assert_eq!(rt; plenty(&Written, &code, &nested_want()), 22);
+    assert!(rt; plenty(&Written, &code, Ok(&nested_want())));
     let whole = [ops[0], op(Op::EvalExpr(1)), ops[2], ops[3]];
-    assert_eq!(rt; plenty(&Whole, &code, &whole), 4);
+    assert!(rt; plenty(&Whole, &code, Ok(&whole)));
     let units = [ops[0], op(Op::Unit), ops[2], ops[3]];
-    assert_eq!(rt; plenty(&Units, &code, &units), 4);
+    assert!(rt; plenty(&Units, &code, Ok(&units)));
 }
 
 // Just enough room, one place short, one remembered place short.
@@ -464,111 +398,114 @@ fn rooms(rt: HostRuntime) {
     let rows = [row(1)];
     let names = [2];
     let code = named(&exprs, &ops, &rows, &names);
-    let want = nested_want();
-    assert_eq!(rt;
-        answer(&Written, &code, &want, &mut [7; 4], &mut [op(Op::Tick); 22]),
-        22
+    assert!(rt;
+        gives(
+            &Written,
+            &code,
+            &mut [7; 4],
+            &mut [op(Op::Tick); 22],
+            Ok(&nested_want())
+        )
     );
-    assert_eq!(rt;
-        answer(&Written, &code, &want, &mut [7; 4], &mut [op(Op::Tick); 21]),
-        1023
+    assert!(rt;
+        gives(
+            &Written,
+            &code,
+            &mut [7; 4],
+            &mut [op(Op::Tick); 21],
+            Err(23)
+        )
     );
-    assert_eq!(rt;
-        answer(&Written, &code, &want, &mut [7; 4], &mut [op(Op::Tick); 7]),
-        1023
+    assert!(rt;
+        gives(
+            &Written,
+            &code,
+            &mut [7; 4],
+            &mut [op(Op::Tick); 7],
+            Err(23)
+        )
     );
-    assert_eq!(rt;
-        answer(&Written, &code, &want, &mut [7; 3], &mut [op(Op::Tick); 22]),
-        1023
+    assert!(rt;
+        gives(
+            &Written,
+            &code,
+            &mut [7; 3],
+            &mut [op(Op::Tick); 22],
+            Err(23)
+        )
     );
 }
 
 // So many lists, each inside the one before, and so many opaque items in the innermost one.
 fn tower(lists: u32, items: u32) -> [Expr; 40] {
-    let mut exprs = [expr(0, 0, 0, 0); 40];
-    for i in 1..40u32 {
-        exprs[i as usize] = if i <= lists {
-            expr(6, 1, lists.wrapping_add(items).wrapping_add(1), 0)
-        } else {
-            expr(3, 1, i + 1, 0)
-        };
-    }
-    exprs
+    array::from_fn(|i| match i as u32 {
+        0 => unused(),
+        i if i <= lists => expr(6, 1, lists.wrapping_add(items).wrapping_add(1), 0),
+        i => expr(3, 1, i.wrapping_add(1), 0),
+    })
+}
+
+// How long the code of such an expression and a `Return` is, written in full.
+fn tower_length(lists: u32, items: u32) -> Option<Result<usize, u32>> {
+    let exprs = tower(lists, items);
+    let ops = [eval(0), op(Op::Return)];
+    let mut places = [7; 32];
+    let mut out = [op(Op::Tick); 96];
+    let code = answer(
+        &Written,
+        &opaque(&exprs, &ops, &[row(1)]),
+        &mut places,
+        &mut out,
+    )?;
+    Some(code.map(|code| code.len()))
 }
 
 // 2 for each leaf and 4 for each list, less one: 63 is known, 65 is not.
 #[test]
 fn longest_segments(rt: HostRuntime) {
+    assert_eq!(rt; tower_length(15, 2), Some(Ok(64)));
+    assert_eq!(rt; tower_length(16, 1), Some(Err(17)));
+    assert_eq!(rt; tower_length(1, 30), Some(Ok(64)));
+    assert_eq!(rt; tower_length(1, 31), Some(Err(17)));
     let ops = [eval(0), op(Op::Return)];
-    let deep = tower(15, 2);
-    assert_eq!(rt;
-        plenty(&Written, &opaque(&deep, &ops, &[row(1)]), &[]),
-        9998
-    );
-    let deeper = tower(16, 1);
-    assert_eq!(rt;
-        plenty(&Written, &opaque(&deeper, &ops, &[row(1)]), &[]),
-        1017
-    );
-    let flat = tower(1, 30);
-    assert_eq!(rt;
-        plenty(&Written, &opaque(&flat, &ops, &[row(1)]), &[]),
-        9998
-    );
-    let longer = tower(1, 31);
-    assert_eq!(rt;
-        plenty(&Written, &opaque(&longer, &ops, &[row(1)]), &[]),
-        1017
-    );
-    assert_eq!(rt;
-        plenty(
-            &Whole,
-            &opaque(&longer, &ops, &[row(1)]),
-            &[op(Op::EvalExpr(1)), ops[1]],
-        ),
-        2
-    );
+    let whole = [op(Op::EvalExpr(1)), ops[1]];
+    assert!(rt; plenty(&Whole, &opaque(&tower(1, 31), &ops, &[row(1)]), Ok(&whole)));
 }
 
 // An expression nested as deep as there are records is refused, and not followed.
 #[test]
 fn a_million_deep(rt: HostRuntime) -> Result<(), Fail> {
     let mut exprs = Vec::new(rt.alloc());
-    exprs.push(expr(0, 0, 0, 0))?;
-    for _ in 1..1_048_575u32 {
-        exprs.push(expr(6, 1, 1_048_576, 0))?;
-    }
+    exprs.push(unused())?;
+    exprs.resize(1_048_575, expr(6, 1, 1_048_576, 0))?;
     exprs.push(expr(3, 1, 1_048_576, 0))?;
     let ops = [eval(0), op(Op::Return)];
-    assert_eq!(rt;
-        plenty(&Written, &opaque(&exprs, &ops, &[row(1)]), &[]),
-        1017
-    );
+    assert!(rt; plenty(&Written, &opaque(&exprs, &ops, &[row(1)]), Err(17)));
     Ok(())
 }
 
 // A target one past the code.
 #[test]
 fn a_target_past_the_code(rt: HostRuntime) {
-    let exprs = [expr(0, 0, 0, 0), expr(3, 3, 2, 0)];
+    let exprs = one_expr();
     let rows = [row(1)];
     let ops = [eval(0), op(Op::Jump(2))];
-    assert_eq!(rt; plenty(&Whole, &opaque(&exprs, &ops, &rows), &[]), 1011);
+    assert!(rt; plenty(&Whole, &opaque(&exprs, &ops, &rows), Err(11)));
     let fine = [eval(0), op(Op::Jump(1))];
     let want = [op(Op::EvalExpr(1)), fine[1]];
-    assert_eq!(rt; plenty(&Whole, &opaque(&exprs, &fine, &rows), &want), 2);
+    assert!(rt; plenty(&Whole, &opaque(&exprs, &fine, &rows), Ok(&want)));
 }
 
 // Rows of a bad kind or of no record, an expression against its form.
 #[test]
 fn bad_rows_and_records(rt: HostRuntime) {
-    let exprs = [expr(0, 0, 0, 0), expr(3, 3, 2, 0)];
+    let exprs = one_expr();
     let ops = [eval(0), op(Op::Return)];
     let kind = [Row { kind: 3, number: 1 }];
-    assert_eq!(rt; plenty(&Whole, &opaque(&exprs, &ops, &kind), &[]), 1011);
+    assert!(rt; plenty(&Whole, &opaque(&exprs, &ops, &kind), Err(11)));
     let number = [row(2)];
-    assert_eq!(rt; plenty(&Whole, &opaque(&exprs, &ops, &number), &[]), 1011);
-    let malformed = [expr(0, 0, 0, 0), expr(6, 3, 2, 0)];
+    assert!(rt; plenty(&Whole, &opaque(&exprs, &ops, &number), Err(11)));
+    let malformed = [unused(), expr(6, 3, 2, 0)];
     let rows = [row(1)];
-    assert_eq!(rt; plenty(&Whole, &opaque(&malformed, &ops, &rows), &[]), 1011);
+    assert!(rt; plenty(&Whole, &opaque(&malformed, &ops, &rows), Err(11)));
 }

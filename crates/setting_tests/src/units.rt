@@ -7,8 +7,8 @@ ghost use Rattle.meaning.specs.Reading.Reading.{unit};
 ghost use Rattle.meaning.proofs.WritersPlay.{written-plays};
 
 use code::{Instr, Op};
-use records::{Position, Refusal, Script};
-use writers::Writer;
+use records::Refusal;
+use writers::{Named, Writer};
 
 #[derive(Clone, Copy)]
 pub struct Units;
@@ -33,23 +33,14 @@ impl Writer for Units {
         (Self::LONGEST, Self::RISE)
     }
 
-    fn write(
-        &self,
-        script: &Script,
-        _names: &[u32],
-        expr: u32,
-        out: &mut [Instr],
-    ) -> Result<usize, Refusal> {
-        if expr == 0 || expr as usize >= script.exprs.len() {
+    fn write(&self, named: &Named, expr: u32, out: &mut [Instr]) -> Result<usize, Refusal> {
+        if !named.has(expr) {
             return Err(Refusal::UnknownExpression);
         }
         if out.is_empty() {
             return Err(Refusal::NoCodeRoom);
         }
-        out[0] = Instr {
-            op: Op::Unit,
-            at: Position { line: 0, column: 0 },
-        };
+        out[0] = Instr::bare(Op::Unit);
         Ok(1)
     }
 }

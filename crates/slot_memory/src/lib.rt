@@ -24,22 +24,12 @@ pub fn fits(slots: &[Slot], deepest: usize) -> Result<(), Refusal>
 pub fn find(slots: &[Slot], name: u32) -> Option<usize>
     ensures { result ≡ newest name slots.now }
 {
-    for i in (0..slots.len()).rev() {
-        if slots[i].name == name {
-            return Some(i);
-        }
-    }
-    None
+    slots.iter().rposition(|slot| slot.name == name)
 }
 
+// Every slot holds nothing from now on.
 pub fn blank(slots: &mut [Slot])
     ensures { slots.new ≡ replicate (length slots.old) blank_slot }
 {
-    for i in 0..slots.len() {
-        slots[i] = Slot {
-            name: 0,
-            handle: 0,
-            constant: false,
-        };
-    }
+    slots.fill(Slot::default());
 }

@@ -2,4 +2,4 @@
 
 mod stack;
 
-pub use stack::Stack64;
+pub use stack::{NoPlace, Stack64};

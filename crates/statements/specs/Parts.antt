@@ -1,59 +1,12 @@
--- Parts of statements, and rules that were followed by code that touches more than one memory.
-use Rattle.std.specs.Prelude.{◌≡◌, ℕ, suc, pred, Bool, true, false, ◌||◌, List, None, Option, Result}
+-- Parts of statements.
+use Rattle.std.specs.Prelude.{ℕ, suc, pred, Bool, true, false, ◌||◌, None, Option}
 use Rattle.records.specs.declared.types.Position.{Position}
-use Rattle.records.specs.declared.refusals.Refusal.{Refusal}
 use Rattle.records.specs.Tree.{Records, Name, Exp}
-use Rattle.code.specs.declared.ops.Row.{Row}
-use Rattle.code.specs.declared.ops.AssignOp.{AssignOp}
 use Rattle.code.specs.declared.ops.Op.TheVariants.{Unit as UnitOp, DeclareLocal, Pop, Jump, JumpIfFalse, UnwindTo, Tick, PushHandler, PopHandler, IterInit, IterNext, StoreShared}
 use Rattle.code.specs.declared.shapes.Lowered.{Lowered}
-use Rattle.meaning.specs.LowerState.{Pile, Level, M, ret, bind, emit_at, emit, here, patch_here, depth, may_declare, declare, drop_slots, set_iters, set_handlers, enter_loop, leave_loop}
+use Rattle.meaning.specs.LowerState.{M, ret, bind, emit_at, emit, here, patch_here, depth, may_declare, declare, drop_slots, set_iters, set_handlers, enter_loop, leave_loop}
 use Rattle.meaning.specs.Lower.{unset, emit_if, leaves, residual, unwind_to, jump_if, patch_if, round_test, exit_loop, name_number, name_any, testing, may_catch, declare_any}
-use Rattle.lowering.specs.declared.state.Lowering.{Lowering}
-use Rattle.lowering.specs.View.{st, low, outcome}
-use Rattle.code.specs.declared.ops.Instr.{Instr}
-use Rattle.code.specs.declared.shapes.Loop.{Loop}
 use Rattle.statements.specs.declared.loops.Round.{Round}
-use Rattle.statements.specs.declared.loops.TestedRound.{TestedRound}
-
--- ## A rule was followed
-
--- Rows and break places.
-abbrev pub DidRB : {X : Type 0} → M X → Lowering → Pile Row → Pile ℕ → Result X Refusal → Lowering → Pile Row → Pile ℕ → Type 0
-DidRB m a p k r b q l =
-    (names : Pile ℕ) (opers : Pile AssignOp) (slots : Pile ℕ) (block : Level)
-    → m (st a p names opers slots k block) ≡ outcome r (st b q names opers slots l block)
-
--- Rows and slots; names and slots; slots and break places.
-abbrev pub DidRS : {X : Type 0} → M X → Lowering → Pile Row → Pile ℕ → Result X Refusal → Lowering → Pile Row → Pile ℕ → Type 0
-DidRS m a p s r b q t =
-    (names : Pile ℕ) (opers : Pile AssignOp) (breaks : Pile ℕ) (block : Level)
-    → m (st a p names opers s breaks block) ≡ outcome r (st b q names opers t breaks block)
-
-abbrev pub DidNS : {X : Type 0} → M X → Lowering → Pile ℕ → Pile ℕ → Result X Refusal → Lowering → Pile ℕ → Pile ℕ → Type 0
-DidNS m a n s r b o t =
-    (rows : Pile Row) (opers : Pile AssignOp) (breaks : Pile ℕ) (block : Level)
-    → m (st a rows n opers s breaks block) ≡ outcome r (st b rows o opers t breaks block)
-
-abbrev pub DidN : {X : Type 0} → M X → Lowering → Pile ℕ → Result X Refusal → Lowering → Pile ℕ → Type 0
-DidN m a n r b o =
-    (rows : Pile Row) (opers : Pile AssignOp) (slots breaks : Pile ℕ) (block : Level)
-    → m (st a rows n opers slots breaks block) ≡ outcome r (st b rows o opers slots breaks block)
-
-abbrev pub DidSB : {X : Type 0} → M X → Lowering → Pile ℕ → Pile ℕ → Result X Refusal → Lowering → Pile ℕ → Pile ℕ → Type 0
-DidSB m a s k r b t l =
-    (rows : Pile Row) (names : Pile ℕ) (opers : Pile AssignOp) (block : Level)
-    → m (st a rows names opers s k block) ≡ outcome r (st b rows names opers t l block)
-
--- All memories; the block stays or is given anew.
-abbrev pub Did : {X : Type 0} → M X → Lowering → Pile Row → Pile ℕ → Pile AssignOp → Pile ℕ → Pile ℕ → Level → Result X Refusal → Lowering → Pile Row → Pile ℕ → Pile AssignOp → Pile ℕ → Pile ℕ → Level → Type 0
-Did m a p n o s k l r b q n' o' t k' l' = m (st a p n o s k l) ≡ outcome r (st b q n' o' t k' l')
-
--- Names and operator rows alone.
-abbrev pub AddedBoth : {X : Type 0} → M X → Pile ℕ → Pile AssignOp → Result X Refusal → Pile ℕ → Pile AssignOp → Type 0
-AddedBoth m n o r n' o' =
-    (code : Pile Instr) (loops : List Loop) (iters handlers limit deepest : ℕ) (rows : Pile Row) (slots breaks : Pile ℕ) (block : Level)
-    → m (low code loops iters handlers limit deepest rows n o slots breaks block) ≡ outcome r (low code loops iters handlers limit deepest rows n' o' slots breaks block)
 
 -- ## An `if`
 
@@ -68,7 +21,7 @@ end_then has v to_else = bind (jump_if (has || leaves v)) (λ past. bind (patch_
 -- ## A `while`
 
 -- It begins: a mark, its test, and its loop's record.
-abbrev pub begin_while : Records → Exp → Position → Bool → M TestedRound
+abbrev pub begin_while : Records → Exp → Position → Bool → M (Round (Option ℕ))
 begin_while R e mark hasv =
     bind (emit_at Tick mark) (λ _.
     bind here (λ top.
@@ -77,7 +30,7 @@ begin_while R e mark hasv =
     bind (enter_loop top d false hasv) (λ _. ret (record { top = top; exit = exit }))))))
 
 -- It ends: what the body left goes first; then back to the test, and the jump out of it lands here.
-abbrev pub end_while : TestedRound → Lowered → Bool → M Lowered
+abbrev pub end_while : Round (Option ℕ) → Lowered → Bool → M Lowered
 end_while r v hasv =
     bind (emit_if (leaves v) Pop) (λ _.
     bind (emit (Jump r.top)) (λ _.
@@ -110,7 +63,7 @@ loop_variable R x =
     bind (name_number R x) (λ n. bind (emit UnitOp) (λ _. bind (emit (DeclareLocal n false false)) (λ _. declare x.label)))
 
 -- A round: its top, and the place of the jump out of it.
-abbrev pub begin_for : Position → Position → ℕ → Bool → M Round
+abbrev pub begin_for : Position → Position → ℕ → Bool → M (Round ℕ)
 begin_for at mark outside hasv =
     bind (emit_at Tick mark) (λ _.
     bind here (λ top.
@@ -118,7 +71,7 @@ begin_for at mark outside hasv =
     bind (emit (StoreShared outside)) (λ _.
     bind (enter_loop top outside true hasv) (λ _. ret (record { top = top; exit = exit }))))))
 
-abbrev pub end_for : Round → ℕ → Bool → M Lowered
+abbrev pub end_for : Round ℕ → ℕ → Bool → M Lowered
 end_for r outside hasv =
     bind (emit (Jump r.top)) (λ _.
     bind leave_loop (λ count.
@@ -128,7 +81,7 @@ end_for r outside hasv =
     bind (drop_slots outside) (λ _. exit_loop count hasv))))))
 
 -- The end after a body: what it left goes first.
-abbrev pub end_round : Round → ℕ → Lowered → Bool → M Lowered
+abbrev pub end_round : Round ℕ → ℕ → Lowered → Bool → M Lowered
 end_round r outside v hasv = bind (emit_if (leaves v) Pop) (λ _. end_for r outside hasv)
 
 -- ## A `try`

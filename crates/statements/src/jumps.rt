@@ -1,71 +1,56 @@
 // Tests and jumps of `if`, `while` and `do`.
 
-ghost use Rattle.std.specs.Prelude.{◌≡◌, ℕ, ◌<◌, ◌||◌, length, ◌==◌};
-ghost use Rattle.records.specs.Tree.{records, exp_of};
+ghost use Rattle.std.specs.Prelude.{◌≡◌, ◌<◌, ◌||◌, ◌==◌, length};
+ghost use Rattle.records.specs.Tree.{exp_of, records};
 ghost use Rattle.meaning.specs.Lower.{emit_if, leaves, jump_if, meet as meet_m, round_test, testing as testing_m};
-ghost use Rattle.tables.specs.Stacks.{SameLent};
-ghost use Rattle.lowering.specs.View.{DidC, DidR, Lent, most, rows_of};
+ghost use Rattle.lowering.specs.View.{Did, Lent, parts};
 ghost use Rattle.statements.specs.Parts.{begin_if, end_then};
 
+use crate::rows::expression;
 use code::{Lowered, Op};
-use lowering::{Lowering, Rows, residual};
-use records::{Position, Refusal, Script};
+use lowering::Lowering;
+use records::{Form, Position, Refusal};
 
 // Does a statement leave a value?
 pub fn leaves_value(lowered: Lowered) -> bool
     ensures { result ≡ leaves lowered }
 {
-    match lowered {
-        Lowered::Value => true,
-        Lowered::Empty => false,
-    }
+    matches!(lowered, Lowered::Value)
 }
 
 // An operation, if a statement left a value.
 pub fn emit_if_value(c: &mut Lowering, lowered: Lowered, op: Op) -> Result<(), Refusal>
     ensures lent { Lent c.old c.new }
-    ensures did { DidC (emit_if (leaves lowered) op) c.old result c.new }
+    ensures did { Did (emit_if (leaves lowered) op) c.old result c.new }
+    ensures only { parts c.new ≡ record (parts c.old) { code = c.new.code } }
 {
     c.emit_if(leaves_value(lowered), op)
-}
-
-// Is something to be passed: a branch, or the unit that it wants beside a value?
-fn passes(has_branch: bool, then: Lowered) -> bool
-    ensures { result ≡ (has_branch || leaves then) }
-{
-    has_branch || leaves_value(then)
 }
 
 // A jump past the branch, where something is to be passed.
 pub fn jump_if(c: &mut Lowering, wanted: bool) -> Result<Option<u32>, Refusal>
     ensures lent { Lent c.old c.new }
-    ensures did { DidC (jump_if wanted) c.old result c.new }
+    ensures did { Did (jump_if wanted) c.old result c.new }
+    ensures only { parts c.new ≡ record (parts c.old) { code = c.new.code } }
 {
     if wanted {
-        let site = c.emit(Op::Jump(u32::MAX))?;
-        return Ok(Some(site));
+        return Ok(Some(c.emit(Op::Jump(u32::MAX))?));
     }
     Ok(None)
 }
 
-// A jump past the branch after a body, where something is to be passed.
-fn jump_past(c: &mut Lowering, has_branch: bool, then: Lowered) -> Result<Option<u32>, Refusal>
-    ensures lent { Lent c.old c.new }
-    ensures did { DidC (jump_if (has_branch || leaves then)) c.old result c.new }
-{
-    jump_if(c, passes(has_branch, then))
-}
-
 // The condition of an `if`, worked out and tested at its position; the place of the jump to the branch is answered.
-pub fn begin_if(c: &mut Lowering, rows: &mut Rows, expr: u32, at: Position) -> Result<u32, Refusal>
-    ensures lent { (Lent c.old c.new) × (SameLent most rows.old rows.new) }
-    ensures did { DidR (begin_if expr at) c.old (rows_of rows.old) result c.new (rows_of rows.new) }
+pub fn begin_if(c: &mut Lowering, expr: u32, at: Position) -> Result<u32, Refusal>
+    ensures lent { Lent c.old c.new }
+    ensures did { Did (begin_if expr at) c.old result c.new }
+    ensures only { parts c.new ≡ record (parts c.old) { code = c.new.code; rows = c.new.rows } }
 {
-    residual(c, rows, 1, expr)?;
+    expression(c, expr)?;
     c.emit_at(Op::JumpIfFalse { target: u32::MAX }, at)
 }
 
-// The end of an `if`'s body, after which its branch begins; the place of the jump past it is answered.
+// The end of an `if`'s body, after which its branch begins. Where there is a branch to pass, or the unit that it wants
+// beside a value, the place of the jump past it is answered.
 pub fn end_then(
     c: &mut Lowering,
     has_branch: bool,
@@ -73,9 +58,10 @@ pub fn end_then(
     to_else: u32,
 ) -> Result<Option<u32>, Refusal>
     ensures lent { Lent c.old c.new }
-    ensures did { DidC (end_then has_branch then to_else) c.old result c.new }
+    ensures did { Did (end_then has_branch then to_else) c.old result c.new }
+    ensures only { parts c.new ≡ record (parts c.old) { code = c.new.code } }
 {
-    let past = jump_past(c, has_branch, then)?;
+    let past = jump_if(c, has_branch || leaves_value(then))?;
     c.patch_here(to_else);
     Ok(past)
 }
@@ -88,55 +74,48 @@ pub fn meet(
     past: Option<u32>,
 ) -> Result<Lowered, Refusal>
     ensures lent { Lent c.old c.new }
-    ensures did { DidC (meet_m then other past) c.old result c.new }
+    ensures did { Did (meet_m then other past) c.old result c.new }
+    ensures only { parts c.new ≡ record (parts c.old) { code = c.new.code } }
 {
     match (then, other) {
         (Lowered::Value, Lowered::Empty) => {
-            let _ = c.emit(Op::Unit)?;
+            c.emit(Op::Unit)?;
             c.patch_here_if(past);
             Ok(Lowered::Value)
         }
         (Lowered::Empty, Lowered::Value) => {
             let trailer = c.emit(Op::Jump(u32::MAX))?;
             c.patch_here_if(past);
-            let _ = c.emit(Op::Unit)?;
+            c.emit(Op::Unit)?;
             c.patch_here(trailer);
             Ok(Lowered::Value)
         }
-        (Lowered::Value, Lowered::Value) => {
+        (Lowered::Value, Lowered::Value) | (Lowered::Empty, Lowered::Empty) => {
             c.patch_here_if(past);
-            Ok(Lowered::Value)
-        }
-        (Lowered::Empty, Lowered::Empty) => {
-            c.patch_here_if(past);
-            Ok(Lowered::Empty)
+            Ok(then)
         }
     }
 }
 
-// Forms of a condition that is always true: unit (1) and true (2).
+// Is a condition of this form always true?
 fn is_endless(form: u32) -> bool
     ensures { result ≡ (form == 1 || form == 2) }
 {
-    form == 1 || form == 2
+    matches!(Form::try_from(form), Ok(Form::Unit | Form::True))
 }
 
 // The test of a `while`, unless it is endless.
-pub fn testing(
-    c: &mut Lowering,
-    rows: &mut Rows,
-    script: &Script,
-    expr: u32,
-) -> Result<Option<u32>, Refusal>
-    requires { expr < length script.now.exprs.now }
-    ensures lent { (Lent c.old c.new) × (SameLent most rows.old rows.new) }
-    ensures did { DidR (testing_m (records script.now) (exp_of (records script.now) expr)) c.old (rows_of rows.old) result c.new (rows_of rows.new) }
+pub fn testing(c: &mut Lowering, expr: u32) -> Result<Option<u32>, Refusal>
+    requires { expr < length c.old.script.exprs.now }
+    ensures lent { Lent c.old c.new }
+    ensures did { Did (testing_m (records c.old.script) (exp_of (records c.old.script) expr)) c.old result c.new }
+    ensures only { parts c.new ≡ record (parts c.old) { code = c.new.code; rows = c.new.rows } }
 {
-    let condition = script.exprs[expr as usize];
+    let condition = c.script.exprs[expr as usize];
     if is_endless(condition.form) {
         return Ok(None);
     }
-    residual(c, rows, 1, expr)?;
+    expression(c, expr)?;
     let site = c.emit_at(Op::JumpIfFalse { target: u32::MAX }, condition.at)?;
     Ok(Some(site))
 }
@@ -144,14 +123,15 @@ pub fn testing(
 // The test of a `do`: under `until` a jump straight back where it is false.
 pub fn round_test(c: &mut Lowering, until: bool, at: Position, top: u32) -> Result<(), Refusal>
     ensures lent { Lent c.old c.new }
-    ensures did { DidC (round_test until at top) c.old result c.new }
+    ensures did { Did (round_test until at top) c.old result c.new }
+    ensures only { parts c.new ≡ record (parts c.old) { code = c.new.code } }
 {
     if until {
-        let _ = c.emit_at(Op::JumpIfFalse { target: top }, at)?;
+        c.emit_at(Op::JumpIfFalse { target: top }, at)?;
         return Ok(());
     }
     let exit = c.emit_at(Op::JumpIfFalse { target: u32::MAX }, at)?;
-    let _ = c.emit(Op::Jump(top))?;
+    c.emit(Op::Jump(top))?;
     c.patch_here(exit);
     Ok(())
 }

@@ -1,71 +1,48 @@
 // A statement that has no blocks, by its kind.
 
-ghost use Rattle.std.specs.Prelude.{◌≡◌, ℕ, ◌<◌, Bool, false, length, Some};
+ghost use Rattle.std.specs.Prelude.{◌≡◌, ◌<◌, Bool, false, length, Some};
 ghost use Rattle.records.specs.Tree.{records, node_at, head_of};
 ghost use Rattle.records.specs.Meanings.{kind_of, has_body};
 ghost use Rattle.records.specs.Accepts.{Sound};
 ghost use Rattle.code.specs.declared.shapes.Lowered.{Lowered as LoweredAs};
 ghost use Rattle.meaning.specs.LowerState.{M as Rule};
 ghost use Rattle.meaning.specs.Lower.{lower_head};
-ghost use Rattle.tables.specs.Stacks.{SameLent};
-ghost use Rattle.lowering.specs.View.{Lent, most, most_slots, rows_of, names_of, opers_of, slots_of, breaks_of, level_of};
-ghost use Rattle.statements.specs.Parts.{Did};
+ghost use Rattle.lowering.specs.View.{Did, Lent, parts};
 
+use crate::fields::has_flag;
 use crate::leaves::{breaking, calling, continuing, returning, throwing};
+use crate::rows::{expression, statement_row};
 use crate::variables::{assigning, variable};
 use code::Lowered;
-use lowering::{Breaks, Level, Lowering, Names, Operators, Rows, Slots, residual};
-use records::{BREAK, Kind, Refusal, Script};
+use lowering::Lowering;
+use records::{BREAK, Kind, Refusal, Target};
 
 // The statement at a node, of a kind that has no blocks: by the rule for its head, whatever blocks stand there.
-pub fn plain(
-    c: &mut Lowering,
-    rows: &mut Rows,
-    names: &mut Names,
-    operators: &mut Operators,
-    slots: &mut Slots,
-    breaks: &mut Breaks,
-    level: &Level,
-    script: &Script,
-    kind: Kind,
-    i: usize,
-) -> Result<Lowered, Refusal>
-    requires sound { Sound (records script.now) }
-    requires at { (i < length script.now.nodes.now) × ((kind_of (node_at (records script.now) i).kind ≡ Some kind) × (has_body kind ≡ false)) }
-    ensures lent { (Lent c.old c.new) × ((SameLent most rows.old rows.new) × ((SameLent most names.old names.new) × (SameLent most operators.old operators.new))) }
-    ensures kept { (SameLent most_slots slots.old slots.new) × (SameLent most breaks.old breaks.new) }
-    ensures did { (body branch : Rule LoweredAs) (has hasv : Bool) → Did (lower_head (records script.now) (head_of (records script.now) i) body branch has hasv) c.old (rows_of rows.old) (names_of names.old) (opers_of operators.old) (slots_of slots.old) (breaks_of breaks.old) (level_of level.now) result c.new (rows_of rows.new) (names_of names.new) (opers_of operators.new) (slots_of slots.new) (breaks_of breaks.new) (level_of level.now) }
+pub fn plain(c: &mut Lowering, kind: Kind, i: usize) -> Result<Lowered, Refusal>
+    requires sound { Sound (records c.old.script) }
+    requires at { (i < length c.old.script.nodes.now) × ((kind_of (node_at (records c.old.script) i).kind ≡ Some kind) × (has_body kind ≡ false)) }
+    ensures lent { Lent c.old c.new }
+    ensures did { (body branch : Rule LoweredAs) (has hasv : Bool) → Did (lower_head (records c.old.script) (head_of (records c.old.script) i) body branch has hasv) c.old result c.new }
+    ensures only { parts c.new ≡ record (parts c.old) { code = c.new.code; rows = c.new.rows; names = c.new.names; operators = c.new.operators; slots = c.new.slots; deepest = c.new.deepest; breaks = c.new.breaks; loops = c.new.loops } }
 {
-    let node = &script.nodes[i];
+    let node = c.script.nodes[i];
+    let has_break = has_flag(node.flags, BREAK);
     match kind {
-        Kind::Var => variable(c, rows, names, slots, level, script, node),
+        Kind::Var => variable(c, &node),
         Kind::Expr => {
-            residual(c, rows, 1, node.expr)?;
+            expression(c, node.expr)?;
             Ok(Lowered::Value)
         }
-        Kind::FnCall => calling(c, rows, script, node.label, i as u32),
-        Kind::Assignment => {
-            // a plain variable; any other target is left to the whole statement
-            if node.target == 1 {
-                return assigning(c, rows, names, operators, slots, script, node);
-            }
-            residual(c, rows, 2, i as u32)?;
-            Ok(Lowered::Value)
-        }
-        Kind::BreakLoop => {
-            if node.flags & BREAK != 0 {
-                breaking(c, rows, breaks, node.expr)
-            } else {
-                continuing(c)
-            }
-        }
-        Kind::Return => {
-            if node.flags & BREAK != 0 {
-                throwing(c, rows, node.expr, node.at)
-            } else {
-                returning(c, rows, node.expr)
-            }
-        }
+        Kind::FnCall => calling(c, node.label, i as u32),
+        Kind::Assignment => match Target::try_from(node.target) {
+            Ok(Target::Variable) => assigning(c, &node),
+            // any other target is left to the whole statement
+            _ => statement_row(c, i as u32),
+        },
+        Kind::BreakLoop if has_break => breaking(c, node.expr),
+        Kind::BreakLoop => continuing(c),
+        Kind::Return if has_break => throwing(c, node.expr, node.at),
+        Kind::Return => returning(c, node.expr),
         _ => Ok(Lowered::Empty),
     }
 }

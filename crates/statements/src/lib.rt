@@ -1,9 +1,11 @@
 #![tactic(auto)]
 
+mod fields;
 mod jumps;
 mod kinds;
 mod leaves;
 mod loops;
+mod rows;
 mod trials;
 mod variables;
 

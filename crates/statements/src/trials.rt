@@ -1,62 +1,58 @@
 // The parts of a `try`.
 
-ghost use Rattle.std.specs.Prelude.{ℕ, ◌<◌};
-ghost use Rattle.records.specs.Tree.{Records, records, if_any, name_of};
-ghost use Rattle.meaning.specs.Lower.{name_any, may_catch, declare_any};
-ghost use Rattle.tables.specs.Stacks.{SameLent};
-ghost use Rattle.lowering.specs.View.{AddedName, DidS, Lent, most, most_slots, names_of, slots_of};
-ghost use Rattle.statements.specs.Parts.{DidN, begin_try, end_body, begin_catch, end_catch, end_caught};
+ghost use Rattle.std.specs.Prelude.{◌≡◌};
+ghost use Rattle.records.specs.Tree.{Records, if_any, name_of, records};
+ghost use Rattle.meaning.specs.Lower.{declare_any, may_catch, name_any};
+ghost use Rattle.lowering.specs.View.{Did, Lent, parts};
+ghost use Rattle.statements.specs.Parts.{begin_catch, begin_try, end_body, end_catch, end_caught};
 
+use crate::fields::present;
 use crate::jumps::{emit_if_value, leaves_value};
 use code::{Lowered, Op};
-use lowering::{Lowering, Names, Slots, declare, depth, may_declare, push_name, unwind_to};
-use records::{Position, Refusal, Script};
+use lowering::Lowering;
+use records::{Position, Refusal};
 
 // The number of a catch name, if there is one.
-pub fn catch_name(names: &mut Names, script: &Script, label: u32) -> Result<Option<u32>, Refusal>
-    ensures lent { SameLent most names.old names.new }
-    ensures did { AddedName (name_any (records script.now) (if_any (name_of (records script.now)) label)) (names_of names.old) result (names_of names.new) }
+pub fn catch_name(c: &mut Lowering, label: u32) -> Result<Option<u32>, Refusal>
+    ensures lent { Lent c.old c.new }
+    ensures did { Did (name_any (records c.old.script) (if_any (name_of (records c.old.script)) label)) c.old result c.new }
+    ensures only { parts c.new ≡ record (parts c.old) { names = c.new.names } }
 {
-    if label == 0 {
-        return Ok(None);
+    match present(label) {
+        Some(label) => Ok(Some(c.push_name(label)?)),
+        None => Ok(None),
     }
-    let name = push_name(names, script, label)?;
-    Ok(Some(name))
 }
 
 // The slot limit, for a catch name.
-pub fn may_catch(c: &Lowering, slots: &Slots, label: u32) -> Result<(), Refusal>
-    ensures { (R : Records) → DidS (may_catch R (if_any (name_of R) label)) c.now (slots_of slots.now) result c.now (slots_of slots.now) }
+pub fn may_catch(c: &Lowering, label: u32) -> Result<(), Refusal>
+    ensures { (R : Records) → Did (may_catch R (if_any (name_of R) label)) c.now result c.now }
 {
-    if label == 0 {
-        return Ok(());
+    match present(label) {
+        Some(_) => c.may_declare(),
+        None => Ok(()),
     }
-    may_declare(c, slots)
 }
 
 // The slot of a catch name.
-pub fn declare_catch(c: &mut Lowering, slots: &mut Slots, label: u32) -> Result<(), Refusal>
-    ensures lent { (Lent c.old c.new) × (SameLent most_slots slots.old slots.new) }
-    ensures did { (R : Records) → DidS (declare_any R (if_any (name_of R) label)) c.old (slots_of slots.old) result c.new (slots_of slots.new) }
+pub fn declare_catch(c: &mut Lowering, label: u32) -> Result<(), Refusal>
+    ensures lent { Lent c.old c.new }
+    ensures did { (R : Records) → Did (declare_any R (if_any (name_of R) label)) c.old result c.new }
+    ensures only { parts c.new ≡ record (parts c.old) { slots = c.new.slots; deepest = c.new.deepest } }
 {
-    if label == 0 {
-        return Ok(());
+    match present(label) {
+        Some(label) => c.declare(label),
+        None => Ok(()),
     }
-    declare(c, slots, label)
 }
 
 // A `try` begins: the place of its handler is answered.
-pub fn begin_try(
-    c: &mut Lowering,
-    names: &mut Names,
-    script: &Script,
-    label: u32,
-    mark: Position,
-) -> Result<u32, Refusal>
-    ensures lent { (Lent c.old c.new) × (SameLent most names.old names.new) }
-    ensures did { DidN (begin_try (records script.now) (if_any (name_of (records script.now)) label) mark) c.old (names_of names.old) result c.new (names_of names.new) }
+pub fn begin_try(c: &mut Lowering, label: u32, mark: Position) -> Result<u32, Refusal>
+    ensures lent { Lent c.old c.new }
+    ensures did { Did (begin_try (records c.old.script) (if_any (name_of (records c.old.script)) label) mark) c.old result c.new }
+    ensures only { parts c.new ≡ record (parts c.old) { code = c.new.code; names = c.new.names; handlers = c.new.handlers } }
 {
-    let catch_var = catch_name(names, script, label)?;
+    let catch_var = catch_name(c, label)?;
     let site = c.emit_at(
         Op::PushHandler {
             target: u32::MAX,
@@ -69,12 +65,13 @@ pub fn begin_try(
 }
 
 // The body ends: the handler's catch block begins here, and the place of the jump past it is answered.
-pub fn end_body(c: &mut Lowering, slots: &Slots, label: u32, site: u32) -> Result<u32, Refusal>
+pub fn end_body(c: &mut Lowering, label: u32, site: u32) -> Result<u32, Refusal>
     ensures lent { Lent c.old c.new }
-    ensures did { (R : Records) → DidS (end_body R (if_any (name_of R) label) site) c.old (slots_of slots.now) result c.new (slots_of slots.now) }
+    ensures did { (R : Records) → Did (end_body R (if_any (name_of R) label) site) c.old result c.new }
+    ensures only { parts c.new ≡ record (parts c.old) { code = c.new.code; handlers = c.new.handlers } }
 {
-    may_catch(c, slots, label)?;
-    let _ = c.emit(Op::PopHandler)?;
+    may_catch(c, label)?;
+    c.emit(Op::PopHandler)?;
     c.end_handler();
     let past = c.emit(Op::Jump(u32::MAX))?;
     c.patch_here(site);
@@ -83,28 +80,29 @@ pub fn end_body(c: &mut Lowering, slots: &Slots, label: u32, site: u32) -> Resul
 }
 
 // The catch block begins: the depth that it unwinds to is answered.
-pub fn begin_catch(c: &mut Lowering, slots: &mut Slots, label: u32) -> Result<u16, Refusal>
-    ensures lent { (Lent c.old c.new) × (SameLent most_slots slots.old slots.new) }
-    ensures did { (R : Records) → DidS (begin_catch R (if_any (name_of R) label)) c.old (slots_of slots.old) result c.new (slots_of slots.new) }
+pub fn begin_catch(c: &mut Lowering, label: u32) -> Result<u16, Refusal>
+    ensures lent { Lent c.old c.new }
+    ensures did { (R : Records) → Did (begin_catch R (if_any (name_of R) label)) c.old result c.new }
+    ensures only { parts c.new ≡ record (parts c.old) { slots = c.new.slots; deepest = c.new.deepest } }
 {
-    let outside = depth(slots);
-    declare_catch(c, slots, label)?;
+    let outside = c.depth();
+    declare_catch(c, label)?;
     Ok(outside)
 }
 
 // The catch block ends: unit where the body left a value.
 pub fn end_catch(
     c: &mut Lowering,
-    slots: &mut Slots,
     outside: u16,
     body: Lowered,
     past: u32,
 ) -> Result<Lowered, Refusal>
-    ensures lent { (Lent c.old c.new) × (SameLent most_slots slots.old slots.new) }
-    ensures did { DidS (end_catch outside body past) c.old (slots_of slots.old) result c.new (slots_of slots.new) }
+    ensures lent { Lent c.old c.new }
+    ensures did { Did (end_catch outside body past) c.old result c.new }
+    ensures only { parts c.new ≡ record (parts c.old) { code = c.new.code; slots = c.new.slots; deepest = c.new.deepest; handlers = c.new.handlers } }
 {
-    unwind_to(c, slots, outside)?;
-    let _ = c.emit(Op::PopHandler)?;
+    c.unwind_to(outside)?;
+    c.emit(Op::PopHandler)?;
     c.end_handler();
     c.emit_if(leaves_value(body), Op::Unit)?;
     c.patch_here(past);
@@ -114,15 +112,15 @@ pub fn end_catch(
 // The end of a `try` after its catch block: what that left goes first.
 pub fn end_caught(
     c: &mut Lowering,
-    slots: &mut Slots,
     outside: u16,
     body: Lowered,
     caught: Lowered,
     past: u32,
 ) -> Result<Lowered, Refusal>
-    ensures lent { (Lent c.old c.new) × (SameLent most_slots slots.old slots.new) }
-    ensures did { DidS (end_caught outside body caught past) c.old (slots_of slots.old) result c.new (slots_of slots.new) }
+    ensures lent { Lent c.old c.new }
+    ensures did { Did (end_caught outside body caught past) c.old result c.new }
+    ensures only { parts c.new ≡ record (parts c.old) { code = c.new.code; slots = c.new.slots; deepest = c.new.deepest; handlers = c.new.handlers } }
 {
     emit_if_value(c, caught, Op::Pop)?;
-    end_catch(c, slots, outside, body, past)
+    end_catch(c, outside, body, past)
 }

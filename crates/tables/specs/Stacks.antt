@@ -18,6 +18,11 @@ abbrev pub SameLent : {X : Type 0} → (most : ℕ) → Stack X most → Stack X
 SameLent most a b = b.items.ghost_name ≡ a.items.ghost_name
 
 -- One element more, or no room and all as it was.
-abbrev pub Pushed : {X : Type 0} → Pile X → X → Result (Unit {0}) Refusal → Pile X → Type 0
+abbrev pub Pushed : {X Y : Type 0} → Pile X → X → Result Y Refusal → Pile X → Type 0
 Pushed p x (Ok _) q = (has_room p ≡ true) × (q ≡ pushed x p)
 Pushed p x (Err e) q = (has_room p ≡ false) × (e ≡ NoRoom) × (q ≡ p)
+
+-- What is refused leaves a stack as it was.
+abbrev pub KeptIfErr : {X Y : Type 0} → (most : ℕ) → Stack X most → Result Y Refusal → Stack X most → Type 0
+KeptIfErr most a (Ok _) b = Unit {0}
+KeptIfErr most a (Err _) b = b ≡ a

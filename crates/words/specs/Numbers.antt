@@ -1,7 +1,6 @@
 -- Numbers: decimal digits, no sign, at most a given number.
-use Rattle.std.specs.Prelude.{ℕ, ◌+◌, ◌-◌, ◌*◌, Bool, true, cond, ◌&&◌, List, [], ◌∷◌, length, take, drop, Some, None, Option, ◌==◌, nat_le}
+use Rattle.std.specs.Prelude.{ℕ, ◌+◌, ◌-◌, ◌*◌, Bool, true, cond, not, ◌&&◌, List, [], ◌∷◌, length, take, drop, Some, None, Option, ◌==◌, nat_le}
 use Rattle.records.specs.declared.types.Position.{Position}
-use Rattle.words.specs.declared.words.Sort.TheVariants.{BeforeColon}
 use Rattle.words.specs.Words.{front_of}
 
 abbrev pub digit : ℕ → Bool
@@ -30,8 +29,11 @@ joined None y = None
 joined (Some x) None = None
 joined (Some x) (Some y) = Some (record { line = x; column = y })
 
+abbrev pub before_colon : ℕ → Bool
+before_colon c = not (c == 58)
+
 -- Line and column, 16 bits each, with a colon between.
 abbrev pub position_in : List ℕ → Option Position
 position_in w =
-    cond (front_of BeforeColon w == length w) None
-    (joined (number_in 65535 (take (front_of BeforeColon w) w)) (number_in 65535 (drop (front_of BeforeColon w + 1) w)))
+    cond (front_of before_colon w == length w) None
+    (joined (number_in 65535 (take (front_of before_colon w) w)) (number_in 65535 (drop (front_of before_colon w + 1) w)))

@@ -6,7 +6,7 @@ use std::alloc::{AllocError, AllocFailed};
 use std::fmt;
 
 // What should have stood there.
-#[derive(Clone, Copy)]
+#[derive(Clone, Copy, Debug, PartialEq, Eq)]
 pub enum Expected {
     // a word that begins a line
     Keyword,
@@ -24,7 +24,7 @@ pub enum Expected {
 }
 
 // Why a line is not taken.
-#[derive(Clone, Copy)]
+#[derive(Clone, Copy, Debug, PartialEq, Eq)]
 pub enum Fault {
     Malformed(Expected),
     NoMemory,

@@ -9,12 +9,8 @@ fn digit(byte: u8) -> Option<u8>
     ensures value { result ≡ hex_digit byte }
     ensures bound { IfSome result (λ n. n < 16) }
 {
-    match byte {
-        b'0'..=b'9' => Some(byte - b'0'),
-        b'a'..=b'f' => Some(byte - b'a' + 10),
-        b'A'..=b'F' => Some(byte - b'A' + 10),
-        _ => None,
-    }
+    // The cast is proved to lose nothing, where `try_from` would have an error that cannot come.
+    Some(char::from(byte).to_digit(16)? as u8)
 }
 
 fn pair(high: u8, low: u8) -> Option<u8>
@@ -24,19 +20,17 @@ fn pair(high: u8, low: u8) -> Option<u8>
 }
 
 // Adds the bytes that a word spells.
+#[tactic(auto, using(crate::proofs::Pairs::spelt_more))]
 pub fn spell(word: &[u8], bytes: &mut Vec<u8>) -> Result<(), Fault>
     ensures { Became (spelt bytes.old.items word.now) result bytes.new.items }
 {
-    let mut i = 0;
-    while i < word.len() {
-        if word.len() - i == 1 {
-            return Err(Fault::Malformed(Expected::Hex));
-        }
-        let Some(byte) = pair(word[i], word[i + 1]) else {
-            return Err(Fault::Malformed(Expected::Hex));
-        };
-        bytes.push(byte)?;
-        i += 2;
+    let mut rest = word;
+    while let [high, low, tail @ ..] = rest {
+        bytes.push(pair(*high, *low).ok_or(Expected::Hex)?)?;
+        rest = tail;
+    }
+    if !rest.is_empty() {
+        return Err(Expected::Hex.into());
     }
     Ok(())
 }

@@ -9,11 +9,12 @@ mod words;
 pub use expected::{Expected, Fault};
 pub use hex::spell;
 pub use numbers::{number, position};
-pub use words::{Sort, Words, front, is};
+pub use words::{Words, front, is};
 
 #[cfg(test)]
 mod tests {
     use super::*;
+    use records::Position;
 
     #[test]
     fn numbers(rt: HostRuntime) {
@@ -28,23 +29,19 @@ mod tests {
         assert_eq!(rt; number(b"1x", u32::MAX), None);
     }
 
-    // Is a word the position 0:65535?
-    fn is_last_column(word: &[u8]) -> bool {
-        match position(word) {
-            Some(place) => place.line == 0 && place.column == 65_535,
-            None => false,
-        }
-    }
-
     #[test]
     fn positions(rt: HostRuntime) {
-        assert!(rt; is_last_column(b"0:65535"));
-        assert!(rt; position(b"0:65536").is_none());
-        assert!(rt; position(b"65536:0").is_none());
-        assert!(rt; position(b"1").is_none());
-        assert!(rt; position(b":1").is_none());
-        assert!(rt; position(b"1:").is_none());
-        assert!(rt; position(b"1:2:3").is_none());
+        let last = Position {
+            line: 0,
+            column: 65_535,
+        };
+        assert_eq!(rt; position(b"0:65535"), Some(last));
+        assert_eq!(rt; position(b"0:65536"), None);
+        assert_eq!(rt; position(b"65536:0"), None);
+        assert_eq!(rt; position(b"1"), None);
+        assert_eq!(rt; position(b":1"), None);
+        assert_eq!(rt; position(b"1:"), None);
+        assert_eq!(rt; position(b"1:2:3"), None);
     }
 
     #[test]
@@ -52,7 +49,13 @@ mod tests {
         let mut bytes = Vec::new(rt.alloc());
         assert!(rt; spell(b"00fFa9", &mut bytes).is_ok());
         assert!(rt; bytes.as_slice() == [0, 255, 169].as_slice());
-        assert!(rt; spell(b"0", &mut bytes).is_err());
-        assert!(rt; spell(b"0g", &mut bytes).is_err());
+        assert_eq!(rt;
+            spell(b"0", &mut bytes),
+            Err(Fault::Malformed(Expected::Hex))
+        );
+        assert_eq!(rt;
+            spell(b"0g", &mut bytes),
+            Err(Fault::Malformed(Expected::Hex))
+        );
     }
 }

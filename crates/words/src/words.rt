@@ -1,46 +1,39 @@
 // Words of a line: what stands between blanks.
-ghost use Rattle.std.specs.Prelude.{◌≡◌, ◌≤◌, length, IfOk, ◌==◌};
+ghost use Rattle.std.specs.Prelude.{◌≡◌, ◌≤◌, ℕ, Bool, length, IfOk, ◌==◌};
 ghost use Rattle.std.specs.Str.{bytes_eq};
-ghost use Rattle.words.specs.Words.{of_sort, front_of, from_word};
+ghost use Rattle.words.specs.Words.{blank, solid, front_of, from_word};
 ghost use Rattle.words.specs.Reads.{left, outcome, seen, Did, a_word, a_number, a_position, a_flag, no_more};
 
 use super::expected::Expected;
 use super::numbers;
 use records::Position;
 
-// The sorts of bytes that runs are made of.
-#[derive(Clone, Copy)]
-pub enum Sort {
-    Blank,
-    Solid,
-    BeforeColon,
-}
-
-fn is_of(sort: Sort, byte: u8) -> bool
-    ensures { result ≡ of_sort sort byte }
+// `is_ascii_whitespace` takes a form feed too.
+fn is_blank(byte: u8) -> bool
+    ensures { result ≡ blank byte }
 {
-    let blank = byte == b' ' || byte == b'\t' || byte == b'\r' || byte == b'\n';
-    match sort {
-        Sort::Blank => blank,
-        Sort::Solid => !blank,
-        Sort::BeforeColon => byte != b':',
-    }
+    matches!(byte, b' ' | b'\t' | b'\r' | b'\n')
 }
 
-// How many bytes in front are of a sort.
-pub fn front(bytes: &[u8], sort: Sort) -> usize
-    ensures value { result ≡ front_of sort bytes.now }
+fn is_solid(byte: u8) -> bool
+    ensures { result ≡ solid byte }
+{
+    !is_blank(byte)
+}
+
+// How many bytes in front pass a test.
+pub fn front<F: Fn(u8) -> bool>(bytes: &[u8], passes: F) -> usize
+    requires { F.IsAlwaysCallable passes }
+    ensures value { (test : ℕ → Bool) → ((x : ℕ) (b : Bool) → F.post passes x b → b ≡ test x) → result ≡ front_of test bytes.now }
     ensures within { result ≤ length bytes.now }
 {
-    for (i, byte) in bytes.iter().enumerate() {
-        if !is_of(sort, *byte) {
-            return i;
-        }
-    }
-    bytes.len()
+    bytes
+        .iter()
+        .position(|byte| !passes(*byte))
+        .unwrap_or(bytes.len())
 }
 
-// Is a word this text?
+// Is a word this text? (`==` takes no array beside a slice: this is the place where one becomes the other.)
 pub fn is(word: &[u8], text: &[u8]) -> bool
     ensures { result ≡ bytes_eq word.now text.now }
 {
@@ -65,24 +58,25 @@ impl<'a> Words<'a> {
         ensures value { result ≡ (length (from_word (left self.old)) == 0) }
         ensures rest { left self.new ≡ from_word (left self.old) }
     {
-        let (_, rest) = self.rest.split_at(front(self.rest, Sort::Blank));
-        self.rest = rest;
-        rest.is_empty()
+        self.rest = &self.rest[front(self.rest, is_blank)..];
+        self.rest.is_empty()
     }
 
     // The next word; at the line's end, what was expected.
+    #[tactic(auto, unfolding(crate::specs::Reads::a_word))]
     pub fn word(&mut self, expected: Expected) -> Result<&'a [u8], Expected>
         ensures { a_word expected (left self.old) ≡ outcome (seen result) (left self.new) }
     {
         if self.at_end() {
             return Err(expected);
         }
-        let (word, rest) = self.rest.split_at(front(self.rest, Sort::Solid));
+        let (word, rest) = self.rest.split_at(front(self.rest, is_solid));
         self.rest = rest;
         Ok(word)
     }
 
     // A number that is at most `most`.
+    #[tactic(auto, unfolding(crate::specs::Reads::a_number))]
     pub fn number(&mut self, most: u32) -> Result<u32, Expected>
         ensures value { Did (a_number most) (left self.old) result (left self.new) }
         ensures bound { IfOk result (λ n. n ≤ most) }
@@ -92,6 +86,7 @@ impl<'a> Words<'a> {
     }
 
     // A position.
+    #[tactic(auto, unfolding(crate::specs::Reads::a_position))]
     pub fn position(&mut self) -> Result<Position, Expected>
         ensures { Did a_position (left self.old) result (left self.new) }
     {
@@ -100,17 +95,17 @@ impl<'a> Words<'a> {
     }
 
     // 0 or 1.
+    #[tactic(auto, unfolding(crate::specs::Reads::a_flag))]
     pub fn flag(&mut self) -> Result<bool, Expected>
         ensures { Did a_flag (left self.old) result (left self.new) }
     {
         let word = self.word(Expected::Flag)?;
-        match numbers::number(word, 1) {
-            Some(flag) => Ok(flag == 1),
-            None => Err(Expected::Flag),
-        }
+        let flag = numbers::number(word, 1).ok_or(Expected::Flag)?;
+        Ok(flag == 1)
     }
 
     // Nothing more.
+    #[tactic(auto, unfolding(crate::specs::Reads::no_more))]
     pub fn end(&mut self) -> Result<(), Expected>
         ensures { Did no_more (left self.old) result (left self.new) }
     {

@@ -1,5 +1,5 @@
 -- Readings and segments by the form of an expression.
-use Rattle.std.proofs.Common.{◌≡◌, ℕ, suc, ◌+◌, ◌≤◌, Bool, true, false, cond, eqb, [], ◌∷◌, ◌++◌, Some, None, Option, sym, refl, ap, ◌∙◌, subst, inl, inr, arith, eqb-true}
+use Rattle.std.proofs.Common.{◌≡◌, ℕ, suc, ◌+◌, Bool, true, false, cond, eqb, [], ◌∷◌, ◌++◌, Some, None, Option, sym, refl, ap, ◌∙◌, subst, inl, inr, arith, eqb-true}
 use Rattle.std.proofs.lemmas.Bool.{cases_Bool}
 use Rattle.records.specs.declared.kinds.Form.{Form}
 use Rattle.records.specs.declared.kinds.Form.TheVariants.{Unit as UnitForm, True, Opaque, False, Name, AllOf, AnyOf}
@@ -10,7 +10,7 @@ use Rattle.meaning.specs.Reading.{Bytes, Reading, Reading.unit, Reading.yes, Rea
 use Rattle.meaning.specs.Fed.{Tables, number_of}
 use Rattle.meaning.specs.Writers.{plain, name_reading, form_reading, size, size_items, load, written, written_items}
 use Rattle.meaning.proofs.WritersPlay.{jump_on}
-use Rattle.writers.specs.Sizes.{weight_of, weight}
+use Rattle.writers.specs.Sizes.{weight_of}
 use Rattle.writers.specs.Leaves.{loaded, leaf_of, decides, closing}
 
 -- The reading of a form, by the reading of its name and by its items.
@@ -137,16 +137,3 @@ written-list T on is a z f e g = go on
         ∙ ap (λ (k : ℕ). written_items T is (jump_on true) f a ++ (plain (BoolOp false) ∷ plain (Jump k) ∷ plain (BoolOp true) ∷ [])) p
     go false = ap (λ (k : ℕ). written_items T is (jump_on false) k a ++ (plain (BoolOp true) ∷ plain (Jump (suc (suc (suc (size_items is + a))))) ∷ plain (BoolOp false) ∷ [])) q
         ∙ ap (λ (k : ℕ). written_items T is (jump_on false) f a ++ (plain (BoolOp true) ∷ plain (Jump k) ∷ plain (BoolOp false) ∷ [])) p
-
-pub weight-most : (R : Records) (i : ℕ) → weight R i ≤ 4
-weight-most R i = go (form_of (expr_at R i).form)
-  where
-    go : (m : Option Form) → weight_of m ≤ 4
-    go None = omega arith
-    go (Some UnitForm) = omega arith
-    go (Some True) = omega arith
-    go (Some Opaque) = omega arith
-    go (Some False) = omega arith
-    go (Some Name) = omega arith
-    go (Some AllOf) = omega arith
-    go (Some AnyOf) = omega arith

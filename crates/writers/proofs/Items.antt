@@ -30,12 +30,6 @@ module _ (R : Records) where
       ap (λ (n : ℕ). weigh R n a) e ∙ ap (λ (n : ℕ). weight R a + n) (weigh-split j k (suc a) ∙ ap (λ (n : ℕ). weigh R j (suc a) + weigh R k n) f)
       ∙ (let z : weight R a + (weigh R j (suc a) + weigh R k (suc j + a)) ≡ (weight R a + weigh R j (suc a)) + weigh R k (suc j + a) = omega arith in z)
 
-  -- One record more.
-  pub weigh-step : (a b : ℕ) → a < b → weigh R (b - a) a ≡ weight R a + weigh R (b - (a + 1)) (a + 1)
-  weigh-step a b h =
-      let e : b - a ≡ suc (b - (a + 1)) = omega arith in
-      ap (λ (n : ℕ). weigh R n a) e ∙ ap (λ (n : ℕ). weight R a + weigh R (b - (a + 1)) n) (sym (add-one a))
-
   pub weigh-none : (a b : ℕ) → b ≤ a → weigh R (b - a) a ≡ 0
   weigh-none a b h = ap (λ (n : ℕ). weigh R n a) (let z : b - a ≡ 0 = omega arith in z)
 

@@ -1,5 +1,6 @@
 pub mod Spelled
 pub mod Forms
+pub mod Weights
 pub mod Items
-pub mod Puts
 pub mod Replies
+pub mod Puts

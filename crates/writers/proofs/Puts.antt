@@ -1,10 +1,10 @@
 -- Writing a segment operation by operation.
-use Rattle.std.proofs.Common.{◌≡◌, ℕ, suc, ◌+◌, ◌-◌, ◌<◌, ◌≤◌, Bool, true, false, cond, ◌⊎◌, List, [], ◌∷◌, ◌++◌, length, drop, set, Some, None, sym, refl, ap, ◌∙◌, subst, inl, inr, add-one, arith}
+use Rattle.std.proofs.Common.{◌≡◌, ℕ, suc, ◌+◌, ◌-◌, ◌^◌, ◌<◌, ◌≤◌, Bool, true, false, cond, ◌⊎◌, List, [], ◌∷◌, ◌++◌, length, drop, set, Some, None, sym, refl, ap, ◌∙◌, subst, inl, inr, add-one, arith}
 use mathlib.Core.Option.{none}
 use lib.Seq.{sets, sets-eq}
 use Rattle.std.proofs.lemmas.Bool.{cases_lt}
 use Rattle.records.specs.Meanings.{form_of}
-use Rattle.records.specs.Tree.{Records, expr_at}
+use Rattle.records.specs.Tree.{Records, records, expr_at}
 use Rattle.records.specs.Checks.{tiles, expr_fault}
 use Rattle.records.proofs.Tiles.{tiles-on}
 use Rattle.code.specs.declared.ops.Op.{Op}
@@ -12,10 +12,13 @@ use Rattle.code.specs.declared.ops.Op.TheVariants.{JumpIfTrue, JumpIfFalse}
 use Rattle.code.specs.declared.ops.Instr.{Instr}
 use Rattle.meaning.specs.Reading.{Reading, Items, Items.item}
 use Rattle.meaning.specs.Fed.{Tables}
-use Rattle.meaning.specs.Writers.{plain, written_reading, size, size_items, written, written_items}
+use Rattle.writers.specs.declared.named.Named.{Named}
+use Rattle.writers.specs.Write.{tables_for, reading as reading_for}
+use Rattle.meaning.specs.Writers.{plain, written_reading, size, size_items, written, written_items, writer}
 use Rattle.meaning.proofs.WritersPlay.{jump_on, length-written, length-items}
 use Rattle.writers.specs.Sizes.{weigh, Capped}
 use Rattle.writers.specs.Leaves.{leaf_of, decides, closing, items_in}
+use Rattle.writers.proofs.Replies.{knows, knows-not}
 use Rattle.writers.proofs.Forms.{leaf, list_of, list-is, size-list, written-list}
 use Rattle.writers.proofs.Items.{fine-at, inner, items-step, items-end, item-within, all-weigh, weighs}
 
@@ -158,3 +161,67 @@ module _ (T : Tables) (R : Records) (passed : expr_fault R ≡ none) where
       go : (65 < weigh R (past e - e) e) ⊎ (weigh R (past e - e) e ≤ 65) → (1 ≤ n) × (n - 1 ≤ 64 → n - 1 ≡ size (written_reading T R e)) × (64 < n - 1 → 64 < size (written_reading T R e))
       go (inl l) = let p = c.past l in (omega arith, λ h. absurd (omega arith), λ h. omega (arith, w))
       go (inr l) = let p = c.exact l in (omega (arith, w), λ h. omega (arith, w), λ h. omega (arith, w))
+
+  -- ## A call that writes
+
+  -- The scan of an expression with its test tells whether Written knows it, and how long its segment is.
+  pub record Scanned (e n : ℕ) : Type 0 where
+    pub some : 1 ≤ n
+    pub fits : n - 1 ≤ 64 → ((writer T R).known e ≡ true) × (n - 1 ≡ length ((writer T R).segment e)) × (n - 1 ≡ size (written_reading T R e))
+    pub past : 64 < n - 1 → (writer T R).known e ≡ false
+
+  pub scanned : (e : ℕ) → 1 ≤ e → e < length R.exprs → (n : ℕ) → Capped (weigh R (past e - e) e) n → Scanned e n
+  scanned e lo hi n c =
+      let s = sized e lo hi n c in
+      let long = length-written T (written_reading T R e) 0 in
+      record {
+        some = s.0;
+        fits = λ h. (knows T R e lo hi (omega (arith, s.1 h)), omega (arith, s.1 h, long), s.1 h);
+        past = λ h. knows-not T R e lo hi (s.2 h);
+      }
+
+-- ## A call that puts
+
+module _ (n : Named) (e : ℕ) (lo : 0 < e) (hi : e < length n.script.exprs.now) where
+  abbrev T : Tables
+  T = tables_for n
+
+  abbrev R : Records
+  R = records n.script
+
+  abbrev last : ℕ
+  last = (expr_at R e).end
+
+  abbrev its : Items
+  its = items_of T R e
+
+  -- The range of an expression lies past it, inside the records.
+  pub record Ranged : Type 0 where
+    pub after : e < last
+    pub within : last ≤ length n.script.exprs.now
+    pub few : length n.script.exprs.now < 2 ^ 32
+
+  pub ranged : Ranged
+  ranged = let f = fine-at T R n.checked e lo hi in record { after = f.after; within = f.within; few = n.few }
+
+  module _ (on : Bool) (d : Some on ≡ decides (form_of (expr_at R e).form)) where
+    -- The operations of a list are those of its items and three more.
+    pub long : size (reading_for n e) ≡ size_items its + 3
+    long = list-size T R n.checked e on (sym d)
+
+    pub counts : (k : ℕ) → Capped (weigh R (last - (e + 1)) (e + 1)) k → size (reading_for n e) ≤ 64 → k ≡ size_items its
+    counts k c s = counted T R n.checked e on (sym d) lo hi k c s
+
+  -- An item whose turn it is.
+  pub record Turn (item place z : ℕ) : Type 0 where
+    pub low : 1 ≤ item
+    pub after : item < (expr_at R item).end
+    pub within : (expr_at R item).end ≤ last
+    pub room : place + size (reading_for n item) + 1 ≤ z
+
+  module _ (on : Bool) (f z : ℕ) (w : List Instr) (item place : ℕ) (out : List Instr) (a : Ahead T R on f last z w item place out) where
+    pub turn : item < last → Turn item place z
+    turn l =
+        let r = ranged in
+        let i = item-within T R n.checked item last l a.tiled in
+        record { low = a.low; after = i.0; within = i.1; room = item_room T R n.checked on f last z w item place out a r.within l }

@@ -4,9 +4,10 @@ ghost use Rattle.std.specs.Prelude.{◌≡◌, List, length};
 ghost use Rattle.meaning.specs.Writers.{whole, is_record};
 ghost use Rattle.meaning.proofs.WritersLaw.{whole-lawful};
 
+use crate::named::Named;
 use crate::writer::Writer;
 use code::{Instr, Op};
-use records::{Position, Refusal, Script};
+use records::Refusal;
 
 // One question for every expression.
 #[derive(Clone, Copy)]
@@ -25,23 +26,14 @@ impl Writer for Whole {
         (Self::LONGEST, Self::RISE)
     }
 
-    fn write(
-        &self,
-        script: &Script,
-        _names: &[u32],
-        expr: u32,
-        out: &mut [Instr],
-    ) -> Result<usize, Refusal> {
-        if expr == 0 || expr as usize >= script.exprs.len() {
+    fn write(&self, named: &Named, expr: u32, out: &mut [Instr]) -> Result<usize, Refusal> {
+        if !named.has(expr) {
             return Err(Refusal::UnknownExpression);
         }
         if out.is_empty() {
             return Err(Refusal::NoCodeRoom);
         }
-        out[0] = Instr {
-            op: Op::EvalExpr(expr),
-            at: Position { line: 0, column: 0 },
-        };
+        out[0] = Instr::bare(Op::EvalExpr(expr));
         Ok(1)
     }
 }

@@ -1,9 +1,10 @@
-use Rattle.std.proofs.Common.{arith}
-use Rattle.blanks.proofs.Blanked.{past_more, before_more}
+use Rattle.std.proofs.Common.{rules}
+use Rattle.std.proofs.lemmas.List.{places}
+use Rattle.blanks.proofs.Blanked.{blank_more}
 use Rattle.blanks.proofs.blank_from.Goals as goal
 
-pub loop-i-preserved : goal.loop-i-preserved
-loop-i-preserved g c = (
-  past_more c.loop-i.items c.args.blank c.args.from c.loop-i.i (omega arith) c.loop-i.invariant.0,
-  before_more c.loop-i.items c.args.blank c.args.from c.loop-i.i _ (omega arith) c.loop-i.invariant.1,
-)
+pub loop-item-preserved : goal.loop-item-preserved
+loop-item-preserved g c = blank_more c.loop-item.item-items c.args.blank c.loop-item.item-index (search rules) c.loop-item.invariant
+
+pub returns-clause-past : goal.returns-clause-past
+returns-clause-past g c = λ k h l. search (rules, places)

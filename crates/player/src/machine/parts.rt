@@ -2,215 +2,174 @@ ghost use Rattle.meaning.specs.Machine.{advances, arms, assigns, assigns_named, 
 ghost use Rattle.player.specs.Players.{Does};
 
 use super::Player;
-use crate::kinds::Flow;
-use code::{Answer, Handler, Op, Purpose, Question, Slot};
+use crate::kinds::{Flow, Stuck};
+use code::{Answer, Handler, Op, Purpose, Question, RowKind, Slot, handles};
 use records::Position;
 
-// One method for each operation: what it comes to, with place and mode as they were.
+// One method for each operation: what it comes to, with place and mode as they were. Where two are alike, each still has
+// a rule of its own to follow.
 impl<'a> Player<'a> {
-    fn push(&mut self, handle: u64) -> Flow
+    fn push(&mut self, handle: u64) -> Result<Flow, Stuck>
         ensures { Does self.old result self.new (pushes handle) }
     {
-        if self.values.push(handle) {
-            Flow::Next
-        } else {
-            Flow::Stuck
-        }
+        self.values.push(handle)?;
+        Ok(Flow::Next)
     }
 
-    fn discard(&mut self) -> Flow
+    fn discard(&mut self) -> Result<Flow, Stuck>
         ensures { Does self.old result self.new pops }
     {
-        match self.values.pop() {
-            Some(_) => Flow::Next,
-            None => Flow::Stuck,
-        }
+        self.values.pop().ok_or(Stuck)?;
+        Ok(Flow::Next)
     }
 
-    fn rotate(&mut self, n: u8) -> Flow
+    fn rotate(&mut self, n: u8) -> Result<Flow, Stuck>
         ensures { Does self.old result self.new (rotates n) }
     {
-        if n == 0 {
-            return Flow::Next;
+        if n > 0 {
+            let handle = self.values.pop().ok_or(Stuck)?;
+            self.values.insert(n as usize, handle)?;
         }
-        let Some(handle) = self.values.pop() else {
-            return Flow::Stuck;
-        };
-        if self.values.insert(n as usize, handle) {
-            Flow::Next
-        } else {
-            Flow::Stuck
-        }
+        Ok(Flow::Next)
     }
 
-    fn branch(&mut self, on: bool, target: u32, at: Position) -> Flow
+    fn branch(&mut self, on: bool, target: u32, at: Position) -> Result<Flow, Stuck>
         ensures { Does self.old result self.new (branches on target at) }
     {
-        let Some(handle) = self.values.pop() else {
-            return Flow::Stuck;
+        let value = match self.values.pop().ok_or(Stuck)? {
+            handles::FALSE => false,
+            handles::TRUE => true,
+            _ => {
+                return Ok(Flow::Fault {
+                    handle: handles::NOT_A_TRUTH_VALUE,
+                    at,
+                });
+            }
         };
-        match handle {
-            1 => if on { Flow::Next } else { Flow::Goto(target) },
-            2 => if on { Flow::Goto(target) } else { Flow::Next },
-            _ => Flow::Fault { handle: 3, at },
-        }
+        Ok(if value == on {
+            Flow::Goto(target)
+        } else {
+            Flow::Next
+        })
     }
 
-    fn throw(&mut self, at: Position) -> Flow
+    fn throw(&mut self, at: Position) -> Result<Flow, Stuck>
         ensures { Does self.old result self.new (throws at) }
     {
-        match self.values.pop() {
-            Some(handle) => Flow::Fault { handle, at },
-            None => Flow::Stuck,
-        }
+        let handle = self.values.pop().ok_or(Stuck)?;
+        Ok(Flow::Fault { handle, at })
     }
 
-    fn give(&mut self) -> Flow
+    fn give(&mut self) -> Result<Flow, Stuck>
         ensures { Does self.old result self.new gives }
     {
-        match self.values.pop() {
-            Some(handle) => Flow::Give(handle),
-            None => Flow::Stuck,
-        }
+        let handle = self.values.pop().ok_or(Stuck)?;
+        Ok(Flow::Give(handle))
     }
 
-    fn declare(&mut self, name: u32, constant: bool) -> Flow
+    fn declare(&mut self, name: u32, constant: bool) -> Result<Flow, Stuck>
         ensures { Does self.old result self.new (declares name constant) }
     {
-        let Some(handle) = self.values.pop() else {
-            return Flow::Stuck;
-        };
-        if self.declare_slot(Slot {
+        let handle = self.values.pop().ok_or(Stuck)?;
+        self.declare_slot(Slot {
             name,
             handle,
             constant,
-        }) {
-            Flow::Next
-        } else {
-            Flow::Stuck
-        }
+        })?;
+        Ok(Flow::Next)
     }
 
-    fn unwind(&mut self, n: u16) -> Flow
+    fn unwind(&mut self, n: u16) -> Result<Flow, Stuck>
         ensures { Does self.old result self.new (unwinds n) }
     {
         let n = n as usize;
         if n > self.live_slots() {
-            return Flow::Stuck;
+            return Err(Stuck);
         }
         self.cut_slots(n);
-        Flow::Next
+        Ok(Flow::Next)
     }
 
-    fn load_named(&mut self, name: u32) -> Flow
+    fn load_named(&mut self, name: u32) -> Result<Flow, Stuck>
         ensures { Does self.old result self.new (loads_named name) }
     {
         let Some(i) = self.find_slot(name) else {
-            return Flow::Ask(Question::Name(name), Purpose::Push);
+            return Ok(Flow::Ask(Question::Name(name), Purpose::Push));
         };
-        match self.slot(i) {
-            Some(slot) => self.push(slot.handle),
-            None => Flow::Stuck,
-        }
+        let slot = self.slot(i).ok_or(Stuck)?;
+        self.push(slot.handle)
     }
 
-    fn store(&mut self, i: u16, constant: bool) -> Flow
+    fn store(&mut self, i: u16, constant: bool) -> Result<Flow, Stuck>
         ensures { Does self.old result self.new (stores i constant) }
     {
-        let Some(handle) = self.values.pop() else {
-            return Flow::Stuck;
-        };
         let i = i as usize;
-        let Some(slot) = self.slot(i) else {
-            return Flow::Stuck;
-        };
+        let handle = self.values.pop().ok_or(Stuck)?;
+        let slot = self.slot(i).ok_or(Stuck)?;
         self.set_slot(
             i,
             Slot {
-                name: slot.name,
                 handle,
                 constant,
+                ..slot
             },
         );
-        Flow::Next
+        Ok(Flow::Next)
     }
 
-    fn overwrite(&mut self, i: u16, handle: u64) -> Flow
+    fn overwrite(&mut self, i: u16, handle: u64) -> Result<Flow, Stuck>
         ensures { Does self.old result self.new (overwrites i handle) }
     {
         let i = i as usize;
-        let Some(slot) = self.slot(i) else {
-            return Flow::Stuck;
-        };
-        self.set_slot(
-            i,
-            Slot {
-                name: slot.name,
-                handle,
-                constant: slot.constant,
-            },
-        );
-        Flow::Next
+        let slot = self.slot(i).ok_or(Stuck)?;
+        self.set_slot(i, Slot { handle, ..slot });
+        Ok(Flow::Next)
     }
 
-    fn store_shared(&mut self, i: u16) -> Flow
+    fn store_shared(&mut self, i: u16) -> Result<Flow, Stuck>
         ensures { Does self.old result self.new (stores_shared i) }
     {
-        let Some(handle) = self.values.pop() else {
-            return Flow::Stuck;
-        };
+        let handle = self.values.pop().ok_or(Stuck)?;
         self.overwrite(i, handle)
     }
 
-    fn assign(&mut self, i: u16, row: Option<u32>, at: Position) -> Flow
+    fn assign(&mut self, i: u16, row: Option<u32>, at: Position) -> Result<Flow, Stuck>
         ensures { Does self.old result self.new (assigns i row at) }
     {
-        let Some(handle) = self.values.pop() else {
-            return Flow::Stuck;
-        };
-        let Some(slot) = self.slot(i as usize) else {
-            return Flow::Stuck;
-        };
+        let new = self.values.pop().ok_or(Stuck)?;
+        let slot = self.slot(i as usize).ok_or(Stuck)?;
         if slot.constant {
-            return Flow::Fault { handle: 4, at };
+            return Ok(Flow::Fault {
+                handle: handles::CONSTANT_ASSIGNED,
+                at,
+            });
         }
-        match row {
-            Some(row) => Flow::Ask(
-                Question::Combine {
-                    row,
-                    old: slot.handle,
-                    new: handle,
-                },
-                Purpose::Store(i),
-            ),
-            None => self.overwrite(i, handle),
-        }
+        let Some(row) = row else {
+            return self.overwrite(i, new);
+        };
+        let old = slot.handle;
+        Ok(Flow::Ask(Question::Combine { row, old, new }, Purpose::Store(i)))
     }
 
-    fn assign_named(&mut self, name: u32, row: Option<u32>) -> Flow
+    fn assign_named(&mut self, name: u32, row: Option<u32>) -> Result<Flow, Stuck>
         ensures { Does self.old result self.new (assigns_named name row) }
     {
-        match self.values.pop() {
-            Some(new) => Flow::Ask(Question::Assign { name, row, new }, Purpose::Assigned),
-            None => Flow::Stuck,
-        }
+        let new = self.values.pop().ok_or(Stuck)?;
+        Ok(Flow::Ask(Question::Assign { name, row, new }, Purpose::Assigned))
     }
 
-    fn evaluate(&mut self, i: u32) -> Flow
+    fn evaluate(&mut self, i: u32) -> Result<Flow, Stuck>
         ensures { Does self.old result self.new (evaluates self.old.rows.now i) }
     {
-        let i = i as usize;
-        if i >= self.rows.len() {
-            return Flow::Stuck;
-        }
-        match self.rows[i].kind {
-            1 => Flow::Ask(Question::Expression(self.rows[i].number), Purpose::Push),
-            2 => Flow::Ask(Question::Statement(self.rows[i].number), Purpose::Push),
-            _ => Flow::Stuck,
-        }
+        let row = self.rows.get(i as usize).ok_or(Stuck)?;
+        let question = match RowKind::try_from(row.kind)? {
+            RowKind::Expression => Question::Expression(row.number),
+            RowKind::Statement => Question::Statement(row.number),
+        };
+        Ok(Flow::Ask(question, Purpose::Push))
     }
 
-    fn arm(&mut self, target: u32, name: Option<u32>) -> Flow
+    fn arm(&mut self, target: u32, name: Option<u32>) -> Result<Flow, Stuck>
         ensures { Does self.old result self.new (arms target name) }
     {
         let handler = Handler {
@@ -221,91 +180,75 @@ impl<'a> Player<'a> {
             slots: self.live_slots(),
             iters: self.iters.len(),
         };
-        if self.handlers.push(handler) {
-            Flow::Next
-        } else {
-            Flow::Stuck
-        }
+        self.handlers.push(handler)?;
+        Ok(Flow::Next)
     }
 
-    fn disarm(&mut self) -> Flow
+    fn disarm(&mut self) -> Result<Flow, Stuck>
         ensures { Does self.old result self.new disarms }
     {
-        match self.handlers.pop() {
-            Some(_) => Flow::Next,
-            None => Flow::Stuck,
-        }
+        self.handlers.pop().ok_or(Stuck)?;
+        Ok(Flow::Next)
     }
 
-    fn iterate(&mut self) -> Flow
+    fn iterate(&mut self) -> Result<Flow, Stuck>
         ensures { Does self.old result self.new opening }
     {
-        if self.iters.len() >= 64 {
-            return Flow::Stuck;
+        if self.iters.is_full() {
+            return Err(Stuck);
         }
-        match self.values.pop() {
-            Some(handle) => Flow::Ask(Question::Iterate(handle), Purpose::Open),
-            None => Flow::Stuck,
-        }
+        let handle = self.values.pop().ok_or(Stuck)?;
+        Ok(Flow::Ask(Question::Iterate(handle), Purpose::Open))
     }
 
-    fn begin(&mut self, iterator: u64) -> Flow
+    fn begin(&mut self, iterator: u64) -> Result<Flow, Stuck>
         ensures { Does self.old result self.new (begins iterator) }
     {
-        if self.iters.push(iterator) {
-            Flow::Next
-        } else {
-            Flow::Stuck
-        }
+        self.iters.push(iterator)?;
+        Ok(Flow::Next)
     }
 
-    fn advance(&mut self, exit: u32) -> Flow
+    fn advance(&mut self, exit: u32) -> Result<Flow, Stuck>
         ensures { Does self.old result self.new (advances exit) }
     {
-        match self.iters.newest() {
-            Some(iterator) => Flow::Ask(Question::Next(iterator), Purpose::Advance(exit)),
-            None => Flow::Stuck,
-        }
+        let iterator = self.iters.newest().ok_or(Stuck)?;
+        Ok(Flow::Ask(Question::Next(iterator), Purpose::Advance(exit)))
     }
 
-    fn drop_iterator(&mut self) -> Flow
+    fn drop_iterator(&mut self) -> Result<Flow, Stuck>
         ensures { Does self.old result self.new drops }
     {
-        match self.iters.pop() {
-            Some(_) => Flow::Next,
-            None => Flow::Stuck,
-        }
+        self.iters.pop().ok_or(Stuck)?;
+        Ok(Flow::Next)
     }
 
-    fn finish(&mut self, exit: u32) -> Flow
+    fn finish(&mut self, exit: u32) -> Result<Flow, Stuck>
         ensures { Does self.old result self.new (finishes exit) }
     {
-        match self.iters.pop() {
-            Some(_) => Flow::Goto(exit),
-            None => Flow::Stuck,
-        }
+        self.iters.pop().ok_or(Stuck)?;
+        Ok(Flow::Goto(exit))
     }
 
     // One operation.
-    pub fn exec(&mut self, op: Op, at: Position) -> Flow
+    pub fn exec(&mut self, op: Op, at: Position) -> Result<Flow, Stuck>
         ensures { Does self.old result self.new (exec self.old.rows.now op at) }
     {
         match op {
-            Op::Unit => self.push(0),
-            Op::Bool(true) => self.push(2),
-            Op::Bool(false) => self.push(1),
+            Op::Unit => self.push(handles::UNIT),
+            Op::Bool(true) => self.push(handles::TRUE),
+            Op::Bool(false) => self.push(handles::FALSE),
             Op::StoreLocal { slot, is_const } => self.store(slot, is_const),
             Op::LoadNamed(name) => self.load_named(name),
             Op::AssignNamed { name, op } => self.assign_named(name, op),
             Op::AssignLocal { slot, op, .. } => self.assign(slot, op, at),
             Op::DeclareLocal { name, is_const, .. } => self.declare(name, is_const),
             Op::Pop => self.discard(),
-            Op::Jump(target) => Flow::Goto(target),
+            Op::Jump(target) => Ok(Flow::Goto(target)),
             Op::JumpIfTrue { target } => self.branch(true, target, at),
             Op::JumpIfFalse { target } => self.branch(false, target, at),
             Op::Rotate(n) => self.rotate(n),
             Op::UnwindTo(n) => self.unwind(n),
-            Op::Tick | Op::Checkpoint => Flow::Next,
+            Op::Tick | Op::Checkpoint => Ok(Flow::Next),
             Op::EvalAst { residual, .. } => self.evaluate(residual),
             Op::PushHandler { target, catch_var } => self.arm(target, catch_var),
             Op::PopHandler => self.disarm(),
@@ -318,27 +261,27 @@ impl<'a> Player<'a> {
             Op::StoreShared(i) => self.store_shared(i),
             Op::Throw => self.throw(at),
             Op::Return => self.give(),
-            Op::EvalExpr(e) => Flow::Ask(Question::Expression(e), Purpose::Push),
+            Op::EvalExpr(e) => Ok(Flow::Ask(Question::Expression(e), Purpose::Push)),
             Op::IterNext {
                 counter_slot: Some(_),
                 ..
             }
-            | Op::Foreign(_) => Flow::Stuck,
+            | Op::Foreign(_) => Err(Stuck),
         }
     }
 
     // An answer.
-    pub fn resume(&mut self, purpose: Purpose, answer: Answer) -> Flow
+    pub fn resume(&mut self, purpose: Purpose, answer: Answer) -> Result<Flow, Stuck>
         ensures { Does self.old result self.new (resume purpose answer) }
     {
         match (purpose, answer) {
-            (_, Answer::Fault { handle, at }) => Flow::Fault { handle, at },
+            (_, Answer::Fault { handle, at }) => Ok(Flow::Fault { handle, at }),
             (Purpose::Push | Purpose::Advance(_), Answer::Value(handle)) => self.push(handle),
             (Purpose::Store(i), Answer::Value(handle)) => self.overwrite(i, handle),
             (Purpose::Open, Answer::Value(handle)) => self.begin(handle),
-            (Purpose::Assigned, Answer::Done) => Flow::Next,
+            (Purpose::Assigned, Answer::Done) => Ok(Flow::Next),
             (Purpose::Advance(exit), Answer::Done) => self.finish(exit),
-            (Purpose::Assigned, Answer::Value(_)) | (_, Answer::Done) => Flow::Stuck,
+            (Purpose::Assigned, Answer::Value(_)) | (_, Answer::Done) => Err(Stuck),
         }
     }
 }

@@ -1,24 +1,23 @@
 ghost use Rattle.std.specs.Prelude.{◌≡◌, ◌<◌, length};
 ghost use Rattle.meaning.specs.Calls.{after, answered, handle_of, lookup, overwritten, told};
 ghost use Rattle.meaning.specs.Machine.{resume, takes};
-ghost use Rattle.player.specs.Players.{Wrote, locals, mach};
+ghost use Rattle.player.specs.Players.{Kept, Wrote, locals, mach};
 ghost use Rattle.player.specs.Replies.{answered_of};
-ghost use Rattle.player.specs.States.{Kept, state};
+ghost use Rattle.player.specs.States.{state};
 
 use super::Player;
 use crate::kinds::{Answered, Mode};
 use code::{Answer, Purpose, Slot};
+use records::Refusal;
 
 // Does an answer suit what it is for?
 pub fn accepts(purpose: Purpose, answer: Answer) -> bool
     ensures { result ≡ takes purpose answer }
 {
-    match (purpose, answer) {
-        (_, Answer::Fault { .. }) => true,
-        (Purpose::Assigned, Answer::Value(_)) => false,
-        (_, Answer::Value(_)) => true,
-        (Purpose::Assigned | Purpose::Advance(_), Answer::Done) => true,
-        (_, Answer::Done) => false,
+    match answer {
+        Answer::Fault { .. } => true,
+        Answer::Value(_) => !matches!(purpose, Purpose::Assigned),
+        Answer::Done => matches!(purpose, Purpose::Assigned | Purpose::Advance(_)),
     }
 }
 
@@ -48,26 +47,15 @@ impl<'a> Player<'a> {
     }
 
     // Another handle in a name's newest live slot, unless that is constant.
-    pub fn rewrite(&mut self, name: u32, handle: u64) -> bool
+    pub fn rewrite(&mut self, name: u32, handle: u64) -> Result<(), Refusal>
         ensures { Wrote (overwritten name handle (locals self.old)) self.old result self.new }
     {
-        let Some(i) = self.find_slot(name) else {
-            return false;
-        };
-        let Some(slot) = self.slot(i) else {
-            return false;
-        };
+        let i = self.find_slot(name).ok_or(Refusal::NotSettable)?;
+        let slot = self.slot(i).ok_or(Refusal::NotSettable)?;
         if slot.constant {
-            return false;
+            return Err(Refusal::NotSettable);
         }
-        self.set_slot(
-            i,
-            Slot {
-                name: slot.name,
-                handle,
-                constant: slot.constant,
-            },
-        );
-        true
+        self.set_slot(i, Slot { handle, ..slot });
+        Ok(())
     }
 }

@@ -3,20 +3,22 @@ ghost use Rattle.meaning.specs.Machine.{cut, newest, put};
 ghost use Rattle.player.specs.Players.{Declared, Got, Slotted, locals};
 
 use super::Player;
+use crate::kinds::Stuck;
 use code::Slot;
 use slot_memory::find;
 
+#[tactic(auto, unfolding(crate::specs::Players::held))]
 impl<'a> Player<'a> {
     // One slot more, if there is room.
-    pub fn declare_slot(&mut self, slot: Slot) -> bool
+    pub fn declare_slot(&mut self, slot: Slot) -> Result<(), Stuck>
         ensures { Declared self.old slot result self.new }
     {
         if self.live == self.slots.len() {
-            return false;
+            return Err(Stuck);
         }
         self.slots[self.live] = slot;
         self.live += 1;
-        true
+        Ok(())
     }
 
     // Keeps the oldest `n`.
@@ -36,11 +38,7 @@ impl<'a> Player<'a> {
     pub fn slot(&self, i: usize) -> Option<Slot>
         ensures { Got i (locals self.now).live result }
     {
-        if i >= self.live {
-            return None;
-        }
-        let slots = &*self.slots;
-        Some(slots[i])
+        self.slots[..self.live].get(i).copied()
     }
 
     pub fn set_slot(&mut self, i: usize, slot: Slot)
@@ -54,7 +52,6 @@ impl<'a> Player<'a> {
     pub fn find_slot(&self, name: u32) -> Option<usize>
         ensures { result ≡ newest name (locals self.now).live }
     {
-        let slots = &*self.slots;
-        find(&slots[0..self.live], name)
+        find(&self.slots[..self.live], name)
     }
 }

@@ -1,35 +1,35 @@
 ghost use Rattle.std.specs.Prelude.{◌≡◌, ◌<◌, length};
 ghost use Rattle.meaning.specs.Calls.{after, landed, plays, step, told};
 ghost use Rattle.meaning.specs.Throws.{catches};
-ghost use Rattle.player.specs.Players.{effect, mach};
+ghost use Rattle.player.specs.Players.{Kept, effect, mach};
 ghost use Rattle.player.specs.Replies.{outcome_of};
-ghost use Rattle.player.specs.States.{Kept, state};
+ghost use Rattle.player.specs.States.{state};
 
 use super::Player;
-use crate::kinds::{Flow, Mode, Outcome};
+use crate::kinds::{Flow, Mode, Outcome, Stuck};
 use code::End;
 use records::Position;
 
 impl<'a> Player<'a> {
     // Goes on as an operation or an answer has it.
-    pub fn settle(&mut self, flow: Flow)
+    pub fn settle(&mut self, flow: Result<Flow, Stuck>)
         requires { self.old.place < length self.old.code.now }
         ensures kept { Kept self.old self.new }
         ensures did { state self.new ≡ after (effect flow (mach self.old)) self.old.place }
     {
         match flow {
-            Flow::Next => {
+            Ok(Flow::Next) => {
                 self.place += 1;
                 self.mode = Mode::Ready;
             }
-            Flow::Goto(target) => {
+            Ok(Flow::Goto(target)) => {
                 self.place = target as usize;
                 self.mode = Mode::Ready;
             }
-            Flow::Ask(question, purpose) => self.mode = Mode::Waiting(question, purpose),
-            Flow::Fault { handle, at } => self.land(handle, at),
-            Flow::Give(handle) => self.mode = Mode::Ended(End::Value(handle)),
-            Flow::Stuck => self.mode = Mode::Stuck,
+            Ok(Flow::Ask(question, purpose)) => self.mode = Mode::Waiting(question, purpose),
+            Ok(Flow::Fault { handle, at }) => self.land(handle, at),
+            Ok(Flow::Give(handle)) => self.mode = Mode::Ended(End::Value(handle)),
+            Err(Stuck) => self.mode = Mode::Stuck,
         }
     }
 
@@ -39,11 +39,11 @@ impl<'a> Player<'a> {
         ensures did { state self.new ≡ landed (catches handle at (mach self.old)) }
     {
         match self.catch(handle, at) {
-            Flow::Goto(target) => {
+            Ok(Flow::Goto(target)) => {
                 self.place = target as usize;
                 self.mode = Mode::Ready;
             }
-            Flow::Fault { handle, at } => self.mode = Mode::Ended(End::Fault { handle, at }),
+            Ok(Flow::Fault { handle, at }) => self.mode = Mode::Ended(End::Fault { handle, at }),
             _ => self.mode = Mode::Stuck,
         }
     }
@@ -53,11 +53,10 @@ impl<'a> Player<'a> {
         ensures kept { Kept self.old self.new }
         ensures did { state self.new ≡ step self.old.code.now self.old.rows.now self.old.place (mach self.old) }
     {
-        if self.place >= self.code.len() {
+        let Some(instr) = self.code.get(self.place) else {
             self.mode = Mode::Stuck;
             return;
-        }
-        let instr = self.code[self.place];
+        };
         let flow = self.exec(instr.op, instr.at);
         self.settle(flow);
     }

@@ -4,7 +4,7 @@ ghost use Rattle.stack64.specs.Listed.{listed};
 ghost use Rattle.stack64.specs.Moves.{Popped};
 
 use super::Player;
-use crate::kinds::Flow;
+use crate::kinds::{Flow, Stuck};
 use code::{Handler, Slot};
 use records::Position;
 use stack64::Stack64;
@@ -22,41 +22,33 @@ fn rouse(handlers: &mut Stack64<Handler>) -> Option<Handler>
 }
 
 impl<'a> Player<'a> {
-    // A throw: to the newest armed handler, or out.
-    pub fn catch(&mut self, handle: u64, at: Position) -> Flow
+    // A throw: to the newest armed handler, or out. (A `Flow`, as the rules have it: a throw comes to what operations do.)
+    pub fn catch(&mut self, handle: u64, at: Position) -> Result<Flow, Stuck>
         ensures { Does self.old result self.new (catches handle at) }
     {
         let Some(handler) = rouse(&mut self.handlers) else {
-            return Flow::Fault { handle, at };
+            return Ok(Flow::Fault { handle, at });
         };
         if handler.values > self.values.len()
             || handler.slots > self.live_slots()
             || handler.iters > self.iters.len()
         {
-            return Flow::Stuck;
+            return Err(Stuck);
         }
-        if !self.handlers.push(Handler {
+        self.handlers.push(Handler {
             armed: false,
             ..handler
-        }) {
-            return Flow::Stuck;
-        }
+        })?;
         self.values.truncate(handler.values);
         self.cut_slots(handler.slots);
         self.iters.truncate(handler.iters);
-        match handler.name {
-            None => Flow::Goto(handler.target),
-            Some(name) => {
-                if self.declare_slot(Slot {
-                    name,
-                    handle,
-                    constant: false,
-                }) {
-                    Flow::Goto(handler.target)
-                } else {
-                    Flow::Stuck
-                }
-            }
+        if let Some(name) = handler.name {
+            self.declare_slot(Slot {
+                name,
+                handle,
+                constant: false,
+            })?;
         }
+        Ok(Flow::Goto(handler.target))
     }
 }

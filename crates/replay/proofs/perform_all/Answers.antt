@@ -1,5 +1,6 @@
 use Rattle.std.proofs.Common.{◌<◌, length, arith, rules}
-use Rattle.replay.proofs.Replays.{kept-kept, said_more, left-more, rest_more}
+use Rattle.player.proofs.Plays.{kept-kept}
+use Rattle.replay.proofs.Replays.{said_more, left-more, rest_more}
 use Rattle.replay.proofs.perform_all.Goals as goal
 
 pub loop-i-preserved : goal.loop-i-preserved

@@ -1,7 +1,8 @@
 use Rattle.std.proofs.Common.{◌≡◌, map, take, drop}
 use Rattle.meaning.specs.Calls.{after_calls, replies}
 use Rattle.player.specs.Replies.{call_of, reply_of}
-use Rattle.player.specs.States.{Kept, state}
+use Rattle.player.specs.Players.{Kept}
+use Rattle.player.specs.States.{state}
 use Rattle.replay.proofs.perform_all.Given as goal
 
 abbrev pub invariant-loop-i : goal.invariant-loop-i

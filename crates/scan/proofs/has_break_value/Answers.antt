@@ -1,7 +1,7 @@
 use Rattle.std.proofs.Common.{sym, ◌∙◌}
 use Rattle.records.specs.Tree.{records}
 use Rattle.records.specs.Accepts.{block_from}
-use Rattle.scan.proofs.Scans.{found-hit, found-loop, found-next, found-end, finds-block}
+use Rattle.scan.proofs.Scans.{found-hit, found-loop, found-next, finds-block}
 use Rattle.scan.proofs.has_break_value.Goals as goal
 
 pub loop-i-init : goal.loop-i-init
@@ -16,6 +16,3 @@ loop-i-preserved-then-is_loop c = found-loop (records c.args.script.now) c.args.
 
 pub loop-i-preserved : goal.loop-i-preserved
 loop-i-preserved c = found-next (records c.args.script.now) c.args.to c.loop-i.i _ c.loop-i.invariant c.loop-i-test.true c.if-is_valued_break.ensures c.if-is_loop.ensures
-
-pub returns : goal.returns
-returns c = found-end (records c.args.script.now) c.args.to c.loop-i.i _ c.loop-i.invariant c.loop-i-test.false

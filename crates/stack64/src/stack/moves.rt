@@ -1,8 +1,8 @@
-ghost use Rattle.std.specs.Prelude.{◌≡◌, ◌-◌, ◌<◌, ◌≤◌, [], length, drop};
+ghost use Rattle.std.specs.Prelude.{◌≡◌, ◌-◌, [], length, drop};
 ghost use Rattle.stack64.specs.Listed.{listed};
-ghost use Rattle.stack64.specs.Moves.{Inserted, Popped, Pushed, below};
+ghost use Rattle.stack64.specs.Moves.{Inserted, Popped, Pushed, Replaced};
 
-use super::Stack64;
+use super::{NoPlace, Stack64};
 
 impl<T: Copy> Stack64<T> {
     // No element; `blank` fills the room.
@@ -16,59 +16,53 @@ impl<T: Copy> Stack64<T> {
     }
 
     // One element more, if there is room.
-    pub fn push(&mut self, x: T) -> bool
+    pub fn push(&mut self, x: T) -> Result<(), NoPlace>
         ensures { Pushed (listed self.old) x result (listed self.new) }
     {
-        if self.height == 64 {
-            return false;
+        if self.height == self.cells.len() {
+            return Err(NoPlace);
         }
         self.cells[self.height] = x;
         self.height += 1;
-        true
+        Ok(())
     }
 
     // Takes the newest.
     pub fn pop(&mut self) -> Option<T>
         ensures { Popped (listed self.old) result (listed self.new) }
     {
-        if self.height == 0 {
-            return None;
-        }
+        let x = self.newest()?;
         self.height -= 1;
-        Some(self.cells[self.height])
+        Some(x)
+    }
+
+    // Puts `x` in the place of the newest, which it hands back.
+    pub fn replace_newest(&mut self, x: T) -> Option<T>
+        ensures { Replaced (listed self.old) x result (listed self.new) }
+    {
+        let newest = self.newest()?;
+        self.cells[self.height - 1] = x;
+        Some(newest)
     }
 
     // Keeps the oldest `n`.
     pub fn truncate(&mut self, n: usize)
         ensures { listed self.new ≡ drop (length (listed self.old) - n) (listed self.old) }
     {
-        if n < self.height {
-            self.height = n;
-        }
+        self.height = self.height.min(n);
     }
 
     // One element more, below the newest `n`, if there are so many and there is room.
-    pub fn insert(&mut self, n: usize, x: T) -> bool
+    pub fn insert(&mut self, n: usize, x: T) -> Result<(), NoPlace>
         ensures { Inserted n (listed self.old) x result (listed self.new) }
     {
-        if n > self.len() || self.len() >= 64 {
-            return false;
+        if n > self.height {
+            return Err(NoPlace);
         }
-        self.sink(n, x);
-        true
-    }
-
-    fn sink(&mut self, n: usize, x: T)
-        requires { (n ≤ length (listed self.old)) × (length (listed self.old) < 64) }
-        ensures { listed self.new ≡ below n x (listed self.old) }
-    {
-        if n == 0 {
-            let _ = self.push(x);
-            return;
-        }
-        if let Some(y) = self.pop() {
-            self.sink(n - 1, x);
-            let _ = self.push(y);
-        }
+        let i = self.height - n;
+        self.push(x)?;
+        let cells = &mut self.cells[..];
+        cells[i..self.height].rotate_right(1);
+        Ok(())
     }
 }

@@ -1,6 +1,6 @@
 ghost use Rattle.stack64.specs.Listed.{listed};
 ghost use Rattle.stack64.specs.Moves.{Newest};
-ghost use Rattle.std.specs.Prelude.{◌≡◌, length};
+ghost use Rattle.std.specs.Prelude.{◌≡◌, ◌==◌, length, nat_le, reverse};
 
 use super::Stack64;
 
@@ -11,13 +11,29 @@ impl<T: Copy> Stack64<T> {
         self.height
     }
 
+    pub fn is_empty(&self) -> bool
+        ensures { result ≡ (length (listed self.now) == 0) }
+    {
+        self.len() == 0
+    }
+
+    pub fn is_full(&self) -> bool
+        ensures { result ≡ nat_le 64 (length (listed self.now)) }
+    {
+        self.len() >= 64
+    }
+
     // The newest, which stays.
     pub fn newest(&self) -> Option<T>
         ensures { Newest (listed self.now) result }
     {
-        if self.height == 0 {
-            return None;
-        }
-        Some(self.cells[self.height - 1])
+        self.cells[..self.height].last().copied()
+    }
+
+    // The elements, the oldest first.
+    pub fn as_slice(&self) -> &[T]
+        ensures { result.now ≡ reverse (listed self.now) }
+    {
+        &self.cells[..self.height]
     }
 }

@@ -1,16 +1,13 @@
-use Rattle.std.proofs.Common.{sym}
-use Rattle.records.specs.Tree.{records}
-use Rattle.records.specs.Checks.{expr_sound}
-use Rattle.records.proofs.Bools.{every-on, every-stops, every-ends}
+use Rattle.std.proofs.Common.{ℕ, ◌∙◌, rules}
+use borrow.Author.Tests.{tests}
+use Rattle.records.specs.declared.types.Expr.{Expr}
+use Rattle.records.specs.Tree.{records, no_expr}
+use Rattle.records.specs.Checks.{expr_stands}
+use Rattle.records.proofs.Bools.{all-each-placed}
 use Rattle.records.proofs.checks.check_exprs.Goals as goal
 
-pub returns-then-not-expr_is_sound : goal.returns-then-not-expr_is_sound
-returns-then-not-expr_is_sound c =
-    every-stops (expr_sound (records c.args.script.now)) _ c.loop-i.i c.loop-i.invariant c.loop-i-test.true (sym c.if-not-expr_is_sound.ensures)
-
-pub loop-i-preserved : goal.loop-i-preserved
-loop-i-preserved c =
-    every-on (expr_sound (records c.args.script.now)) _ c.loop-i.i c.loop-i.invariant c.loop-i-test.true (sym c.if-not-expr_is_sound.ensures)
-
 pub returns : goal.returns
-returns c = every-ends (expr_sound (records c.args.script.now)) _ c.loop-i.i c.loop-i.invariant c.loop-i-test.false
+returns c =
+    let s = c.args.script.now in
+    let test = λ (p : ℕ × Expr). expr_stands (records s) p.1 p.0 in
+    c.check_each.ensures test (λ i x r h. search (rules, tests)) ∙ all-each-placed test no_expr s.exprs.now

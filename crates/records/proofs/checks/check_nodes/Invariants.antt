@@ -1,6 +1,6 @@
 use Rattle.std.proofs.Common.{◌≡◌, ◌-◌, [], length}
 use Rattle.records.specs.Tree.{records}
-use Rattle.records.specs.Nesting.{open_of}
+use Rattle.stack64.specs.Listed.{listed}
 use Rattle.records.specs.Checks.{walk}
 use Rattle.records.proofs.checks.check_nodes.Given as goal
 
@@ -8,4 +8,4 @@ use Rattle.records.proofs.checks.check_nodes.Given as goal
 abbrev pub invariant-loop-i : goal.invariant-loop-i
 invariant-loop-i l =
     walk (records l.script) (length (records l.script).nodes) 0 []
-    ≡ walk (records l.script) (length (records l.script).nodes - l.i) l.i (open_of l.nest)
+    ≡ walk (records l.script) (length (records l.script).nodes - l.i) l.i (listed l.nest)

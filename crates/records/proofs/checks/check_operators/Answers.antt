@@ -1,16 +1,13 @@
-use Rattle.std.proofs.Common.{sym}
-use Rattle.records.specs.Tree.{records}
-use Rattle.records.specs.Checks.{operator_law}
-use Rattle.records.proofs.Bools.{every-on, every-stops, every-ends}
+use Rattle.std.proofs.Common.{ℕ, length, ◌∙◌, rules}
+use borrow.Author.Tests.{tests}
+use Rattle.records.specs.declared.types.Operator.{Operator}
+use Rattle.records.specs.Tree.{no_operator}
+use Rattle.records.specs.Checks.{both_named}
+use Rattle.records.proofs.Bools.{all-each-placed}
 use Rattle.records.proofs.checks.check_operators.Goals as goal
 
-pub returns-then-not-operator_is_sound : goal.returns-then-not-operator_is_sound
-returns-then-not-operator_is_sound c =
-    every-stops (operator_law (records c.args.script.now)) _ c.loop-i.i c.loop-i.invariant c.loop-i-test.true (sym c.if-not-operator_is_sound.ensures)
-
-pub loop-i-preserved : goal.loop-i-preserved
-loop-i-preserved c =
-    every-on (operator_law (records c.args.script.now)) _ c.loop-i.i c.loop-i.invariant c.loop-i-test.true (sym c.if-not-operator_is_sound.ensures)
-
 pub returns : goal.returns
-returns c = every-ends (operator_law (records c.args.script.now)) _ c.loop-i.i c.loop-i.invariant c.loop-i-test.false
+returns c =
+    let s = c.args.script.now in
+    let test = λ (p : ℕ × Operator). both_named (length s.labels.now) p.1 in
+    c.check_each.ensures test (λ i x r h. search (rules, tests)) ∙ all-each-placed test no_operator s.operators.now

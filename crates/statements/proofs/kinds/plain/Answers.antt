@@ -1,40 +1,33 @@
-use Rattle.std.proofs.Common.{◌≡◌, true, false, Some, refl, ap, ◌∙◌, rules, eq-eqb, ne_eqb}
-use Rattle.records.specs.declared.kinds.Kind.TheVariants.{FnCall, BreakLoop, Return}
+use Rattle.std.proofs.Common.{◌≡◌, true, false, Some, sym, ap, ◌∙◌}
+use Rattle.records.specs.declared.kinds.Kind.TheVariants.{BreakLoop, Return}
 use Rattle.records.specs.Tree.{records, node_at, flagged}
 use Rattle.scan.proofs.Heads.{head_as_lem}
 use Rattle.statements.proofs.kinds.plain.Goals as goal
 
-pub returns-in-FnCall : goal.returns-in-FnCall
-returns-in-FnCall c =
-    record {
-      lent = search rules;
-      kept = search rules;
-      did = λ body branch has hasv. rw (head_as_lem (records c.args.script.now) c.args.i FnCall (c.requires.at.1.0 ∙ ap Some c.in-FnCall.is)) (c.calling.ensures.did _ _ _ _ _);
-    }
+pub returns-in-BreakLoop-clause-did : goal.returns-in-BreakLoop-clause-did
+returns-in-BreakLoop-clause-did c =
+    let R = records c.args.c.now.script in
+    let h = head_as_lem R c.args.i BreakLoop (c.requires.at.1.0 ∙ ap Some c.in-BreakLoop.is) in
+    let f : flagged 8 (node_at R c.args.i).flags ≡ true = sym c.has_flag-has_break.ensures ∙ c.if-has_break.true in
+    λ body branch has hasv. rw (h, f) (c.breaking.ensures.did R)
 
-pub returns-then-node-ne0 : goal.returns-then-node-ne0
-returns-then-node-ne0 c =
-    let f : flagged 8 (node_at (records c.args.script.now) c.args.i).flags ≡ true = rw (ne_eqb _ 0 c.if-node-ne0.true) refl in
-    record {
-      lent = search rules;
-      kept = search rules;
-      did = λ body branch has hasv. rw (head_as_lem (records c.args.script.now) c.args.i BreakLoop (c.requires.at.1.0 ∙ ap Some c.in-BreakLoop.is), f) (c.breaking.ensures.did (records c.args.script.now) _ _ _ _);
-    }
+pub returns-in-BreakLoop-2-clause-did : goal.returns-in-BreakLoop-2-clause-did
+returns-in-BreakLoop-2-clause-did c =
+    let R = records c.args.c.now.script in
+    let h = head_as_lem R c.args.i BreakLoop (c.requires.at.1.0 ∙ ap Some c.in-BreakLoop.is) in
+    let f : flagged 8 (node_at R c.args.i).flags ≡ false = sym c.has_flag-has_break.ensures ∙ c.if-has_break.false in
+    λ body branch has hasv. rw (h, f) (c.continuing.ensures.did R)
 
-pub returns-then-node-ne0-2 : goal.returns-then-node-ne0-2
-returns-then-node-ne0-2 c =
-    let f : flagged 8 (node_at (records c.args.script.now) c.args.i).flags ≡ true = rw (ne_eqb _ 0 c.if-node-ne0-2.true) refl in
-    record {
-      lent = search rules;
-      kept = search rules;
-      did = λ body branch has hasv. rw (head_as_lem (records c.args.script.now) c.args.i Return (c.requires.at.1.0 ∙ ap Some c.in-Return.is), f) (c.throwing.ensures.did (records c.args.script.now) _ _ _ _ _);
-    }
+pub returns-in-Return-clause-did : goal.returns-in-Return-clause-did
+returns-in-Return-clause-did c =
+    let R = records c.args.c.now.script in
+    let h = head_as_lem R c.args.i Return (c.requires.at.1.0 ∙ ap Some c.in-Return.is) in
+    let f : flagged 8 (node_at R c.args.i).flags ≡ true = sym c.has_flag-has_break.ensures ∙ c.if-has_break-2.true in
+    λ body branch has hasv. rw (h, f) (c.throwing.ensures.did R)
 
-pub returns-else-node-ne0-2 : goal.returns-else-node-ne0-2
-returns-else-node-ne0-2 c =
-    let f : flagged 8 (node_at (records c.args.script.now) c.args.i).flags ≡ false = rw (eq-eqb _ 0 c.if-node-ne0-2.false) refl in
-    record {
-      lent = search rules;
-      kept = search rules;
-      did = λ body branch has hasv. rw (head_as_lem (records c.args.script.now) c.args.i Return (c.requires.at.1.0 ∙ ap Some c.in-Return.is), f) (c.returning.ensures.did (records c.args.script.now) _ _ _ _ _);
-    }
+pub returns-in-Return-2-clause-did : goal.returns-in-Return-2-clause-did
+returns-in-Return-2-clause-did c =
+    let R = records c.args.c.now.script in
+    let h = head_as_lem R c.args.i Return (c.requires.at.1.0 ∙ ap Some c.in-Return.is) in
+    let f : flagged 8 (node_at R c.args.i).flags ≡ false = sym c.has_flag-has_break.ensures ∙ c.if-has_break-2.false in
+    λ body branch has hasv. rw (h, f) (c.returning.ensures.did R)

@@ -1,10 +1,10 @@
-use Rattle.std.proofs.Common.{◌≡◌, ◌-◌, length, drop, vec_items}
+use Rattle.std.proofs.Common.{◌≡◌, length, vec_items}
 use Rattle.words.specs.Hex.{spelt}
 use Rattle.words.proofs.hex.spell.Given as goal
 
 -- What is left goes on from the bytes so far.
-abbrev pub invariant-loop-i : goal.invariant-loop-i
-invariant-loop-i l = spelt (vec_items l.initial.bytes) l.word ≡ spelt (vec_items l.bytes) (drop l.i l.word)
+abbrev pub invariant-loop-rest : goal.invariant-loop-rest
+invariant-loop-rest l = spelt (vec_items l.initial.bytes) l.fn.word ≡ spelt (vec_items l.bytes) l.rest
 
-abbrev pub decreases-loop-i : goal.decreases-loop-i
-decreases-loop-i l = length l.word - l.i
+abbrev pub decreases-loop-rest : goal.decreases-loop-rest
+decreases-loop-rest l = length l.rest

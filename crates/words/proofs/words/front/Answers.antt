@@ -1,19 +1,15 @@
-use Rattle.std.proofs.Common.{sym, arith}
-use Rattle.std.proofs.lemmas.List.Sums.{prefix_len-drop_yes, prefix_len-drop_no, prefix_len-drop_all}
-use Rattle.words.specs.Words.{of_sort}
+use Rattle.std.proofs.Common.{◌≡◌, ℕ, Bool, not, List, [], ◌∷◌, rules, tests, refl, arith}
+use Rattle.std.specs.List.{prefix_len}
+use Rattle.std.proofs.lemmas.Iterator.{YieldsList-from_slice}
+use Rattle.std.proofs.lemmas.Iterator.Search.{position_from_yields_List}
+use Rattle.std.proofs.lemmas.List.Sums.{prefix_len-le-length}
 use Rattle.words.proofs.words.front.Goals as goal
 
-pub returns-then-not-is_of : goal.returns-then-not-is_of
-returns-then-not-is_of c =
-    let e = prefix_len-drop_no (of_sort c.args.sort) c.args.bytes.now c.loop-i.i 0 c.loop-i-test.true (sym c.if-not-is_of.ensures) in
-    record { value = omega arith; within = omega arith }
+twice : (test : ℕ → Bool) (xs : List ℕ) → prefix_len (λ x. not (not (test x))) xs ≡ prefix_len test xs
+twice test [] = refl
+twice test (x ∷ xs) = grind (arith, twice test xs)
 
-pub loop-i-preserved : goal.loop-i-preserved
-loop-i-preserved c =
-    let e = prefix_len-drop_yes (of_sort c.args.sort) c.args.bytes.now c.loop-i.i 0 c.loop-i-test.true (sym c.if-not-is_of.ensures) in
-    omega arith
-
-pub returns : goal.returns
-returns c =
-    let e = prefix_len-drop_all (of_sort c.args.sort) c.args.bytes.now c.loop-i.i c.loop-i-test.false in
-    record { value = omega arith; within = omega arith }
+pub returns-clause-value : goal.returns-clause-value
+returns-clause-value g c = λ test says.
+    let at = position_from_yields_List (λ b. not (test b)) _ _ c.position.result c.position.ensures.ran (YieldsList-from_slice c.args.bytes.now cc) (λ x b q k. search (rules, tests, says)) in
+    search (rules, at, twice test c.args.bytes.now, prefix_len-le-length test c.args.bytes.now)

@@ -1,12 +1,9 @@
-use Rattle.std.proofs.Common.{rules}
-use Rattle.std.proofs.lemmas.List.{length-take-le, get_or-take, take-take}
-use Rattle.meaning.specs.LowerState.{leave_loop}
+use Rattle.stack64.specs.Listed.{listed}
+use Rattle.lowering.specs.Fit.{placed}
+use Rattle.lowering.proofs.Around.{counted-popped}
 use Rattle.lowering.proofs.state.Lowering.end_loop.Goals as goal
 
-pub returns-then-self-eq0 : goal.returns-then-self-eq0
-unfolding leave_loop
-returns-then-self-eq0 c = search (rules, length-take-le, get_or-take, take-take)
-
-pub returns : goal.returns
-unfolding leave_loop
-returns c = search (rules, length-take-le, get_or-take, take-take)
+pub invariant_of-self : goal.invariant_of-self
+invariant_of-self c =
+    let a = c.args.self.now in
+    record { counted = counted-popped (placed a.code) (listed a.loops) c.pop.result (listed c.pop.new.self) c.pop.ensures a.counted; iterated = a.iterated; handled = a.handled }

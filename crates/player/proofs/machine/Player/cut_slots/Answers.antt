@@ -1,12 +1,7 @@
 use Rattle.std.proofs.Common.{refl, rules}
-use Rattle.std.proofs.lemmas.List.{length-take-le}
 use Rattle.player.specs.Players.{held}
 use Rattle.player.proofs.Slots.{held_cut}
 use Rattle.player.proofs.machine.Player.cut_slots.Goals as goal
-
-pub invariant_of-self : goal.invariant_of-self
-unfolding held
-invariant_of-self c = search (rules, length-take-le)
 
 pub returns : goal.returns
 unfolding held

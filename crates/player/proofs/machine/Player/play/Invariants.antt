@@ -1,8 +1,7 @@
 use Rattle.std.proofs.Common.{◌≡◌, ◌-◌}
 use Rattle.meaning.specs.Calls.{plays}
 use Rattle.player.specs.declared.kinds.Mode.TheVariants.{Ready}
-use Rattle.player.specs.Players.{mach}
-use Rattle.player.specs.States.{Kept}
+use Rattle.player.specs.Players.{Kept, mach}
 use Rattle.player.proofs.machine.Player.play.Given as goal
 
 abbrev pub invariant-loop-n : goal.invariant-loop-n

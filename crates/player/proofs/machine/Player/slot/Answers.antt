@@ -1,13 +1,11 @@
-use Rattle.std.proofs.Common.{rules}
-use Rattle.std.proofs.lemmas.List.{length-take-le}
-use Rattle.player.specs.Players.{held}
-use Rattle.player.proofs.Slots.{slot-there, slot-past}
+use Rattle.std.proofs.Common.{List, take, sym, subst}
+use Rattle.code.specs.declared.talk.Slot.{Slot}
+use Rattle.player.specs.Players.{Got, held}
+use Rattle.player.proofs.Slots.{slot_read}
 use Rattle.player.proofs.machine.Player.slot.Goals as goal
-
-pub returns-then-i-self : goal.returns-then-i-self
-unfolding held
-returns-then-i-self c = search (rules, slot-past, length-take-le)
 
 pub returns : goal.returns
 unfolding held
-returns c = (search (rules, length-take-le), slot-there _ _ _ _ c.if-i-self.false c.args.self.now.sound)
+returns c =
+    let ss : List Slot = take c.args.self.now.live c.args.self.now.slots.now in
+    subst (Got c.args.i ss) (sym c.copied.ensures) (slot_read ss c.args.i _ c.get.ensures.lookup.1 c.get.ensures.lookup.3)

@@ -1,9 +1,8 @@
-use Rattle.std.proofs.Common.{rules}
-use Rattle.stack64.proofs.Stacks.{stack-none, newest-rest}
+use Rattle.std.proofs.Common.{◌∙◌, sym, subst, arith}
+use Rattle.stack64.specs.Listed.{listed}
+use Rattle.stack64.specs.Moves.{Newest}
+use Rattle.stack64.proofs.Stacks.{newest-last}
 use Rattle.stack64.proofs.stack.Stack64.newest.Goals as goal
 
-pub returns-then-self-eq0 : goal.returns-then-self-eq0
-returns-then-self-eq0 g c = search (rules, stack-none)
-
 pub returns : goal.returns
-returns g c = search (rules, newest-rest)
+returns g c = subst (Newest (listed c.args.self.now)) (sym (c.copied.ensures ∙ c.last.ensures.value)) (newest-last c.args.self.now.cells c.args.self.now.height (omega arith))

@@ -1,0 +1,4 @@
+pub mod Levels
+pub mod Lists
+pub mod Steps
+pub mod Wholes

@@ -1,0 +1,6 @@
+#![tactic(auto)]
+
+mod blocks;
+mod guard;
+
+pub use blocks::statements;

@@ -1,7 +1,0 @@
-use Rattle.std.proofs.Common.{rules}
-use Rattle.meaning.specs.LowerState.{set_iters}
-use Rattle.lowering.proofs.state.Lowering.end_iterator.Goals as goal
-
-pub returns : goal.returns
-unfolding set_iters
-returns c = search (rules)
