@@ -19,7 +19,7 @@ use Rattle.blocks.specs.Whole.{inner, keeping}
 -- The state by its parts.
 abbrev pub low_of : Parts → Low
 low_of p =
-    record { code = contents most p.code; rows = contents most p.rows; names = contents most p.names; opers = contents most p.operators; slots = contents most_slots p.slots; breaks = contents most p.breaks; loops = reverse (listed p.loops); iters = p.iters; handlers = p.handlers; block = level_of p.block; limit = p.limit; deepest = p.deepest }
+    record { code = contents most p.code.now; rows = contents most p.rows.now; names = contents most p.names.now; opers = contents most p.operators.now; slots = contents most_slots p.slots.now; breaks = contents most p.breaks.now; loops = reverse (listed p.loops); iters = p.iters; handlers = p.handlers; block = level_of p.block; limit = p.limit; deepest = p.deepest }
 
 -- The level inside, from so many slots on.
 abbrev pub deeper : Lowering → ℕ → LevelRecord
@@ -31,7 +31,7 @@ unfolding low leave_block
 left c d l q = ap (λ (p : Parts). ok tt (low_of p)) (sym q)
 
 -- A block by what its statements gave, which keep no scope.
-module _ (c : Lowering) (from to base d : ℕ) (f : depth (low c) ≡ ok d (low c)) (g : base ≡ length (contents most_slots c.slots).held) where
+module _ (c : Lowering) (from to base d : ℕ) (f : depth (low c) ≡ ok d (low c)) (g : base ≡ length (contents most_slots c.slots.now).held) where
   abbrev R : Records
   R = records c.script
 
@@ -43,7 +43,7 @@ module _ (c : Lowering) (from to base d : ℕ) (f : depth (low c) ≡ ok d (low 
   unfolding low enter_block
   entered = ap (λ (l : Level). ok (level_of c.block) (with_block l (low c))) inside
     where
-      inside : ◌≡◌ {A = Level} (record { level = suc c.block.level; base = length (contents most_slots c.slots).held }) (level_of (deeper c base))
+      inside : ◌≡◌ {A = Level} (record { level = suc c.block.level; base = length (contents most_slots c.slots.now).held }) (level_of (deeper c base))
       inside = rw (add-one, ← g) refl
 
   abbrev body : M Lowered

@@ -35,6 +35,7 @@ fn block(c: &mut Lowering, from: usize, to: usize) -> Result<Lowered, Refusal>
     requires within { (to ≤ length c.old.script.nodes.now) × (c.old.block.level < from) }
     ensures lent { Lent c.old c.new }
     ensures around { c.new.block ≡ c.old.block }
+    ensures limit { c.new.limit ≡ c.old.limit }
     ensures did { Did (inner (records c.old.script) from to) c.old result c.new }
 {
     let outside = c.depth();
@@ -59,6 +60,7 @@ pub fn statements(c: &mut Lowering, from: usize, to: usize) -> Result<Lowered, R
     requires within { (to ≤ length c.old.script.nodes.now) × (c.old.block.level ≤ from) }
     ensures lent { Lent c.old c.new }
     ensures around { c.new.block ≡ c.old.block }
+    ensures limit { c.new.limit ≡ c.old.limit }
     ensures did { Did (lower_list (records c.old.script) (keeping (records c.old.script) c.old.block) Empty (block_from (records c.old.script) from to)) c.old result c.new }
 {
     let keep = keeps_scope(c);
@@ -81,6 +83,7 @@ fn statement(c: &mut Lowering, i: usize) -> Result<Lowered, Refusal>
     requires at { (i < length c.old.script.nodes.now) × (c.old.block.level ≤ i) }
     ensures lent { Lent c.old c.new }
     ensures around { c.new.block ≡ c.old.block }
+    ensures limit { c.new.limit ≡ c.old.limit }
     ensures did { Did (lower_m (records c.old.script) (stmt_from (records c.old.script) i)) c.old result c.new }
 {
     let script = c.script;
@@ -105,6 +108,7 @@ fn conditional(c: &mut Lowering, i: usize) -> Result<Lowered, Refusal>
     requires named { (node_at (records c.old.script) i).expr < length c.old.script.exprs.now }
     ensures lent { Lent c.old c.new }
     ensures around { c.new.block ≡ c.old.block }
+    ensures limit { c.new.limit ≡ c.old.limit }
     ensures did { Did (choosing (records c.old.script) (exp_of (records c.old.script) (node_at (records c.old.script) i).expr) (inner (records c.old.script) (i + 1) (node_at (records c.old.script) i).mid) (some_m (records c.old.script) (block_from (records c.old.script) (node_at (records c.old.script) i).mid (node_at (records c.old.script) i).end)) (inner (records c.old.script) (node_at (records c.old.script) i).mid (node_at (records c.old.script) i).end)) c.old result c.new }
 {
     let script = c.script;
@@ -126,6 +130,7 @@ fn while_loop(c: &mut Lowering, i: usize) -> Result<Lowered, Refusal>
     requires named { (node_at (records c.old.script) i).expr < length c.old.script.exprs.now }
     ensures lent { Lent c.old c.new }
     ensures around { c.new.block ≡ c.old.block }
+    ensures limit { c.new.limit ≡ c.old.limit }
     ensures did { Did (looping (records c.old.script) (exp_of (records c.old.script) (node_at (records c.old.script) i).expr) (node_at (records c.old.script) i).mark (has_break_value (block_from (records c.old.script) (i + 1) (node_at (records c.old.script) i).mid)) (inner (records c.old.script) (i + 1) (node_at (records c.old.script) i).mid)) c.old result c.new }
 {
     let script = c.script;
@@ -145,6 +150,7 @@ fn do_loop(c: &mut Lowering, i: usize) -> Result<Lowered, Refusal>
     requires named { (node_at (records c.old.script) i).expr < length c.old.script.exprs.now }
     ensures lent { Lent c.old c.new }
     ensures around { c.new.block ≡ c.old.block }
+    ensures limit { c.new.limit ≡ c.old.limit }
     ensures did { Did (doing (records c.old.script) (flagged 4 (node_at (records c.old.script) i).flags) (exp_of (records c.old.script) (node_at (records c.old.script) i).expr) (node_at (records c.old.script) i).mark (has_break_value (block_from (records c.old.script) (i + 1) (node_at (records c.old.script) i).mid)) (inner (records c.old.script) (i + 1) (node_at (records c.old.script) i).mid)) c.old result c.new }
 {
     let script = c.script;
@@ -166,6 +172,7 @@ fn for_loop(c: &mut Lowering, i: usize) -> Result<Lowered, Refusal>
     requires named { (node_at (records c.old.script) i).expr < length c.old.script.exprs.now }
     ensures lent { Lent c.old c.new }
     ensures around { c.new.block ≡ c.old.block }
+    ensures limit { c.new.limit ≡ c.old.limit }
     ensures did { Did (going (records c.old.script) (name_of (records c.old.script) (node_at (records c.old.script) i).label) (exp_of (records c.old.script) (node_at (records c.old.script) i).expr) (node_at (records c.old.script) i).mark (has_break_value (block_from (records c.old.script) (i + 1) (node_at (records c.old.script) i).mid)) (inner (records c.old.script) (i + 1) (node_at (records c.old.script) i).mid)) c.old result c.new }
 {
     let script = c.script;
@@ -188,6 +195,7 @@ fn try_catch(c: &mut Lowering, i: usize) -> Result<Lowered, Refusal>
     requires at { (i < length c.old.script.nodes.now) × (c.old.block.level ≤ i) }
     ensures lent { Lent c.old c.new }
     ensures around { c.new.block ≡ c.old.block }
+    ensures limit { c.new.limit ≡ c.old.limit }
     ensures did { Did (trying (records c.old.script) (if_any (name_of (records c.old.script)) (node_at (records c.old.script) i).label) (node_at (records c.old.script) i).mark (inner (records c.old.script) (i + 1) (node_at (records c.old.script) i).mid) (inner (records c.old.script) (node_at (records c.old.script) i).mid (node_at (records c.old.script) i).end)) c.old result c.new }
 {
     let script = c.script;

@@ -5,16 +5,21 @@ ghost use Rattle.notation.specs.Tables.{tables};
 ghost use Rattle.intake.specs.Answers.{refusal_text, verdict_text, Answers};
 
 use super::outline::outline;
+use super::texts::put;
 use notation::Draft;
 use records::{Refusal, Script, check};
 use std::alloc::AllocError;
 
+// (Piece by piece: a `String` of the whole line would grow as it is written.)
 #[tactic(auto, unfolding(crate::specs::Answers::refusal_text))]
 fn put_refusal(out: &mut Vec<u8>, refusal: &Refusal) -> Result<(), AllocError>
     ensures { OnOk result (out.new.items ≡ refusal_text refusal.now out.old.items) }
 {
-    let line = format!(in *out.allocator(); "refused {} {refusal}\n", refusal.number())?;
-    out.extend_from_slice(line.as_bytes())
+    out.extend_from_slice(b"refused ")?;
+    put(out, &refusal.number())?;
+    out.extend_from_slice(b" ")?;
+    out.extend_from_slice(refusal.words().as_bytes())?;
+    out.extend_from_slice(b"\n")
 }
 
 #[tactic(auto, unfolding(crate::specs::Answers::verdict_text))]

@@ -1,6 +1,6 @@
 // Pieces of what is printed, each added to the bytes before it.
-ghost use Rattle.std.specs.Prelude.{◌≡◌, ◌++◌, OnOk, IfSome};
-ghost use Rattle.intake.specs.Texts.{indented, visible, hexed, spelled, shown};
+ghost use Rattle.std.specs.Prelude.{◌≡◌, ◌<◌, ◌++◌, OnOk, IfSome};
+ghost use Rattle.intake.specs.Texts.{indented, visible, hex_digit_of, hexed, spelled, shown};
 
 use std::alloc::AllocError;
 use std::fmt::Display;
@@ -24,19 +24,30 @@ pub fn indent(out: &mut Vec<u8>, depth: usize) -> Result<(), AllocError>
     out.extend_from_slice(blanks.as_bytes())
 }
 
+fn hex_digit(digit: u8) -> u8
+    requires { digit < 16 }
+    ensures { result ≡ hex_digit_of digit }
+{
+    if digit < 10 {
+        b'0' + digit
+    } else {
+        b'a' - 10 + digit
+    }
+}
+
 fn is_visible(name: &[u8]) -> bool
     ensures { result ≡ visible name.now }
 {
     name.iter().all(u8::is_ascii_graphic)
 }
 
-#[tactic(auto, using(crate::proofs::Bytes::hexed_more))]
+// (Digit by digit, and no `format!` or `write!`: a format for each byte takes five times the instructions or more.)
 fn put_hex(out: &mut Vec<u8>, bytes: &[u8]) -> Result<(), AllocError>
     ensures { OnOk result (out.new.items ≡ hexed bytes.now out.old.items) }
 {
     for byte in bytes {
-        let digits = format!(in *out.allocator(); "{byte:02x}")?;
-        out.extend_from_slice(digits.as_bytes())?;
+        out.push(hex_digit(*byte / 16))?;
+        out.push(hex_digit(*byte % 16))?;
     }
     Ok(())
 }

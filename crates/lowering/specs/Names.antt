@@ -25,6 +25,9 @@ bytes-equal (x ∷ xs) (y ∷ ys) e = both x y xs ys e (bytes-equal xs ys)
     both : (x y : ℕ) (xs ys : Bytes) → (x == y && same_bytes xs ys) ≡ true → (same_bytes xs ys ≡ true → xs ≡ ys) → x ∷ xs ≡ y ∷ ys
     both x y xs ys e h = grind (arith, nat_tests)
 
+pub equal-bytes : (xs ys : Bytes) → xs ≡ ys → same_bytes xs ys ≡ true
+equal-bytes xs ys e = rw e (bytes-itself ys)
+
 -- The bytes of a label's name.
 abbrev pub word_of : Spelling → ℕ → Bytes
 word_of w l = (name_of (records w.0) l).bytes

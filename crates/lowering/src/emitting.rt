@@ -37,7 +37,7 @@ pub(crate) fn patch_all(code: &mut Code, sites: &[u32], target: u32)
     }
 }
 
-impl<'a> Lowering<'a> {
+impl Lowering<'_, '_, '_, '_, '_, '_, '_, '_, '_, '_, '_, '_, '_> {
     // One operation more, at a position; its place is answered.
     pub fn emit_at(&mut self, op: Op, at: Position) -> Result<u32, Refusal>
         ensures lent { Lent self.old self.new }
@@ -99,7 +99,7 @@ impl<'a> Lowering<'a> {
         ensures steady { Steady self.old self.new }
         ensures only { parts self.new ≡ record (parts self.old) { code = self.new.code } }
     {
-        patch(&mut self.code, site, target);
+        patch(&mut *self.code, site, target);
     }
 
     // The jump at a place is pointed at the next operation.
@@ -128,7 +128,7 @@ impl<'a> Lowering<'a> {
 
     // One live iterator more, once its operation is there; one less.
     pub fn begin_iterator(&mut self)
-        requires { self.old.iters < placed self.old.code }
+        requires { self.old.iters < placed self.old.code.now }
         ensures lent { Lent self.old self.new }
         ensures did { Did (set_iters suc) self.old (Ok self.old.iters) self.new }
         ensures only { parts self.new ≡ record (parts self.old) { iters = self.new.iters } }
@@ -146,7 +146,7 @@ impl<'a> Lowering<'a> {
 
     // One `try` region more around, once an operation for it is there; one less.
     pub fn begin_handler(&mut self)
-        requires { self.old.handlers < placed self.old.code }
+        requires { self.old.handlers < placed self.old.code.now }
         ensures lent { Lent self.old self.new }
         ensures did { Did (set_handlers suc) self.old (Ok self.old.handlers) self.new }
         ensures only { parts self.new ≡ record (parts self.old) { handlers = self.new.handlers } }

@@ -8,5 +8,7 @@ mod slots;
 mod state;
 mod words;
 
+pub use rows::{push_assign_op, push_name};
+pub use slots::{depth, resolve};
 pub use state::{Breaks, Code, Level, Lowering, MOST, MOST_SLOTS, Names, Operators, Rows, Slots};
-pub use words::same_bytes;
+pub use words::{Spelling, same_bytes};

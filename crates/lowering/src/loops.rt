@@ -10,7 +10,7 @@ use crate::state::Lowering;
 use code::Loop;
 use records::Refusal;
 
-impl<'a> Lowering<'a> {
+impl Lowering<'_, '_, '_, '_, '_, '_, '_, '_, '_, '_, '_, '_, '_> {
     // The innermost loop.
     pub fn innermost(&self) -> Option<Loop>
         ensures { Did innermost_m self.now (Ok result) self.now }
@@ -55,7 +55,7 @@ impl<'a> Lowering<'a> {
 
     // A break's jump place joins the innermost loop's record.
     pub fn add_break(&mut self, site: u32) -> Result<(), Refusal>
-        requires { last_breaks self.old < placed self.old.code }
+        requires { last_breaks self.old < placed self.old.code.now }
         ensures lent { Lent self.old self.new }
         ensures did { Did (add_break site) self.old result self.new }
         ensures only { parts self.new ≡ record (parts self.old) { loops = self.new.loops; breaks = self.new.breaks } }
@@ -80,7 +80,7 @@ impl<'a> Lowering<'a> {
         let target = self.here();
         let first = self.breaks.count().saturating_sub(count);
         let sites = self.breaks.as_slice();
-        patch_all(&mut self.code, &sites[first..], target);
+        patch_all(&mut *self.code, &sites[first..], target);
         self.breaks.truncate(first);
     }
 }

@@ -4,15 +4,37 @@ ghost use Rattle.std.specs.Prelude.{◌≡◌, OnErr};
 ghost use Rattle.records.specs.Tree.{records};
 ghost use Rattle.meaning.specs.LowerState.{add_row, enter_name, enter_oper};
 ghost use Rattle.meaning.specs.Lower.{residual as residual_m};
-ghost use Rattle.lowering.specs.View.{Did, Lent, parts};
+ghost use Rattle.tables.specs.Stacks.{KeptIfErr, SameLent, contents};
+ghost use Rattle.lowering.specs.Fit.{most};
+ghost use Rattle.lowering.specs.View.{AddedName, AddedOper, Did, Lent, parts};
 
-use crate::state::Lowering;
+use crate::state::{Lowering, Names, Operators};
 use crate::words::{Numbers, Spelling};
 use code::{AssignOp, Op, Row};
-use records::Refusal;
+use records::{Refusal, Script};
 use tables::enter;
 
-impl<'a> Lowering<'a> {
+// The number of a name, which is entered if it is new.
+pub fn push_name(names: &mut Names, script: &Script, label: u32) -> Result<u32, Refusal>
+    ensures lent { SameLent most names.old names.new }
+    ensures did { AddedName (enter_name (records script.now) label) (contents most names.old) result (contents most names.new) }
+    ensures kept { KeptIfErr most names.old result names.new }
+{
+    let place = enter(names, label, &Spelling(*script))?;
+    Ok(place as u32)
+}
+
+// The number of an operator row, which is entered if it is new.
+pub fn push_assign_op(operators: &mut Operators, entry: AssignOp) -> Result<u32, Refusal>
+    ensures lent { SameLent most operators.old operators.new }
+    ensures did { AddedOper (enter_oper entry) (contents most operators.old) result (contents most operators.new) }
+    ensures kept { KeptIfErr most operators.old result operators.new }
+{
+    let place = enter(operators, entry, &Numbers)?;
+    Ok(place as u32)
+}
+
+impl Lowering<'_, '_, '_, '_, '_, '_, '_, '_, '_, '_, '_, '_, '_> {
     // One row more; its place is answered.
     pub fn add_row(&mut self, kind: u32, number: u32) -> Result<u32, Refusal>
         ensures lent { Lent self.old self.new }
@@ -38,25 +60,21 @@ impl<'a> Lowering<'a> {
         Ok(())
     }
 
-    // The number of a name, which is entered if it is new.
     pub fn push_name(&mut self, label: u32) -> Result<u32, Refusal>
         ensures lent { Lent self.old self.new }
         ensures did { Did (enter_name (records self.old.script) label) self.old result self.new }
         ensures only { parts self.new ≡ record (parts self.old) { names = self.new.names } }
         ensures kept { OnErr result (parts self.new ≡ parts self.old) }
     {
-        let place = enter(&mut self.names, label, &Spelling(self.script))?;
-        Ok(place as u32)
+        push_name(&mut *self.names, &self.script, label)
     }
 
-    // The number of an operator row, which is entered if it is new.
     pub fn push_assign_op(&mut self, entry: AssignOp) -> Result<u32, Refusal>
         ensures lent { Lent self.old self.new }
         ensures did { Did (enter_oper entry) self.old result self.new }
         ensures only { parts self.new ≡ record (parts self.old) { operators = self.new.operators } }
         ensures kept { OnErr result (parts self.new ≡ parts self.old) }
     {
-        let place = enter(&mut self.operators, entry, &Numbers)?;
-        Ok(place as u32)
+        push_assign_op(&mut *self.operators, entry)
     }
 }

@@ -4,28 +4,42 @@ ghost use Rattle.std.specs.Prelude.{◌≡◌, Ok, OnErr};
 ghost use Rattle.records.specs.Tree.{records};
 ghost use Rattle.meaning.specs.LowerState.{depth as depth_m, may_declare, declare as declare_m, drop_slots, resolve as resolve_m};
 ghost use Rattle.meaning.specs.Lower.{unwind_to};
-ghost use Rattle.lowering.specs.View.{Did, Lent, parts};
+ghost use Rattle.tables.specs.Stacks.{contents};
+ghost use Rattle.lowering.specs.Fit.{most_slots};
+ghost use Rattle.lowering.specs.View.{Did, Lent, Saw, parts};
 
-use crate::state::Lowering;
+use crate::state::{Lowering, Slots};
 use crate::words::Spelling;
 use code::Op;
-use records::Refusal;
+use records::{Refusal, Script};
 use tables::newest;
 
-impl<'a> Lowering<'a> {
-    // How many slots are live: the depth that a block unwinds to.
+// How many slots are live: the depth that a block unwinds to.
+pub fn depth(slots: &Slots) -> u16
+    ensures { Saw depth_m (contents most_slots slots.now) (Ok result) }
+{
+    slots.count() as u16
+}
+
+// The newest slot of a name.
+pub fn resolve(slots: &Slots, script: &Script, label: u32) -> Option<u16>
+    ensures { Saw (resolve_m (records script.now) label) (contents most_slots slots.now) (Ok result) }
+{
+    let slot = newest(slots, &label, &Spelling(*script))?;
+    Some(slot as u16)
+}
+
+impl Lowering<'_, '_, '_, '_, '_, '_, '_, '_, '_, '_, '_, '_, '_> {
     pub fn depth(&self) -> u16
         ensures { Did depth_m self.now (Ok result) self.now }
     {
-        self.slots.count() as u16
+        depth(&*self.slots)
     }
 
-    // The newest slot of a name.
     pub fn resolve(&self, label: u32) -> Option<u16>
         ensures { Did (resolve_m (records self.now.script) label) self.now (Ok result) self.now }
     {
-        let slot = newest(&self.slots, &label, &Spelling(self.script))?;
-        Some(slot as u16)
+        resolve(&*self.slots, &self.script, label)
     }
 
     // Slots at the limit are refused.

@@ -37,16 +37,18 @@ pub struct Level {
     pub base: usize,
 }
 
-// The records, the memories that are lent, and beside them loops, block and counters.
+// The records, the memories that are lent, and beside them loops, block and counters. The stacks over the memories lie beside
+// it, each lent at a lifetime of its own: of memory that is lent to a struct inside a struct, a caller is not told afterwards
+// what it holds.
 #[derive(Drop)]
-pub struct Lowering<'a> {
-    pub script: Script<'a>,
-    pub code: Code<'a>,
-    pub rows: Rows<'a>,
-    pub names: Names<'a>,
-    pub operators: Operators<'a>,
-    pub slots: Slots<'a>,
-    pub breaks: Breaks<'a>,
+pub struct Lowering<'s, 'c, 'ca, 'r, 'ra, 'n, 'na, 'o, 'oa, 'l, 'la, 'b, 'ba> {
+    pub script: Script<'s>,
+    pub code: &'c mut Code<'ca>,
+    pub rows: &'r mut Rows<'ra>,
+    pub names: &'n mut Names<'na>,
+    pub operators: &'o mut Operators<'oa>,
+    pub slots: &'l mut Slots<'la>,
+    pub breaks: &'b mut Breaks<'ba>,
     // the loops around, the innermost newest
     pub loops: Stack64<Loop>,
     pub block: Level,
@@ -56,7 +58,7 @@ pub struct Lowering<'a> {
     // the most slots that there may be, and the most that there were
     pub limit: usize,
     pub deepest: usize,
-    ghost counted: { Counted (placed code) (listed loops) },
-    ghost iterated: { iters ≤ placed code },
-    ghost handled: { handlers ≤ placed code },
+    ghost counted: { Counted (placed code.now) (listed loops) },
+    ghost iterated: { iters ≤ placed code.now },
+    ghost handled: { handlers ≤ placed code.now },
 }

@@ -1,6 +1,8 @@
 -- Words: what stands between blanks.
 use Rattle.std.specs.Prelude.{ℕ, Bool, not, ◌||◌, List, take, drop, ◌==◌}
 use Rattle.std.specs.List.{prefix_len}
+use Rattle.words.specs.declared.words.Sort.{Sort}
+use Rattle.words.specs.declared.words.Sort.TheVariants.{Blank, Solid, BeforeColon}
 
 -- Space, tab, and what may end a line.
 abbrev pub blank : ℕ → Bool
@@ -8,6 +10,12 @@ blank c = c == 32 || (c == 9 || (c == 13 || c == 10))
 
 abbrev pub solid : ℕ → Bool
 solid c = not (blank c)
+
+-- Is a byte of a sort?
+abbrev pub of_sort : Sort → ℕ → Bool
+of_sort Blank c = blank c
+of_sort Solid c = solid c
+of_sort BeforeColon c = not (c == 58)
 
 -- How many bytes in front pass a test.
 abbrev pub front_of : (ℕ → Bool) → List ℕ → ℕ

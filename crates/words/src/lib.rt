@@ -9,7 +9,7 @@ mod words;
 pub use expected::{Expected, Fault};
 pub use hex::spell;
 pub use numbers::{number, position};
-pub use words::{Words, front, is};
+pub use words::{Sort, Words, front, front_while, is};
 
 #[cfg(test)]
 mod tests {

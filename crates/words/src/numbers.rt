@@ -13,15 +13,16 @@ pub fn number(word: &[u8], most: u32) -> Option<u32>
     if word.is_empty() {
         return None;
     }
-    let mut value: u32 = 0;
+    // (In 64 bits, where no digit more overflows: `checked_mul` costs a division for each.)
+    let mut value: u64 = 0;
     for byte in word {
         let digit = char::from(*byte).to_digit(10)?;
-        value = value.checked_mul(10)?.checked_add(digit)?;
-        if value > most {
+        value = value * 10 + u64::from(digit);
+        if value > u64::from(most) {
             return None;
         }
     }
-    Some(value)
+    Some(value as u32)
 }
 
 // Where the first colon is.

@@ -119,6 +119,7 @@ statements-loop-i-preserved t c =
       after = subst (λ (s : Script). c.args.from ≤ (node_at (records s) c.loop-i.i).end) (sym e) past;
       kept = search rules;
       around = c.statement.ensures.around ∙ (ap (λ (p : Parts). p.block) c.emit_if.ensures.only ∙ (ap (λ (p : Parts). p.block) c.emit_if_value.ensures.only ∙ v.around));
+      limit = search rules;
       gives = v.gives ∙ (step ∙ ap (λ (s : Script). lower_list R c.keeps_scope-keep.result c.in_ok-lowered.lowered (block_from R (node_at (records s) c.loop-i.i).end c.args.to) (low c.statement.new.c)) (sym e));
     }
 

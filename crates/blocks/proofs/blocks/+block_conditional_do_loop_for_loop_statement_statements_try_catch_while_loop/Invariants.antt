@@ -38,6 +38,7 @@ invariant-statements-loop-i l = record {
   after : l.from ≤ l.i;
   kept : Lent l.initial.c l.c;
   around : l.c.block ≡ l.initial.c.block;
+  limit : l.c.limit ≡ l.initial.c.limit;
   gives : lower_list (records l.initial.c.script) (keeping (records l.initial.c.script) l.initial.c.block) Empty (block_from (records l.initial.c.script) l.from l.to) (low l.initial.c)
       ≡ lower_list (records l.initial.c.script) l.keep l.lowered (block_from (records l.initial.c.script) l.i l.to) (low l.c);
 }

@@ -14,8 +14,8 @@ invariant_of-self-in-Some c =
     let xs = listed a.loops in
     let ys = listed c.replace_newest.new.self in
     let f = put_anew l _ xs c.replace_newest.result ys c.in-Some.ensures c.replace_newest.ensures in
-    let few : l.breaks + 1 ≤ placed a.code = omega (arith, ap (λ (ls : List Loop). (get_or ls 0 no_loop).breaks) c.in-Some.ensures) in
-    record { counted = counted-top (placed a.code) l _ xs ys c.in-Some.ensures f few a.counted; iterated = a.iterated; handled = a.handled }
+    let few : l.breaks + 1 ≤ placed a.code.now = omega (arith, ap (λ (ls : List Loop). (get_or ls 0 no_loop).breaks) c.in-Some.ensures) in
+    record { counted = counted-top (placed a.code.now) l _ xs ys c.in-Some.ensures f few a.counted; iterated = a.iterated; handled = a.handled }
 
 pub returns-in-Some-clause-did : goal.returns-in-Some-clause-did
 unfolding low add_break

@@ -6,4 +6,4 @@ use Rattle.lowering.proofs.state.Lowering.end_loop.Goals as goal
 pub invariant_of-self : goal.invariant_of-self
 invariant_of-self c =
     let a = c.args.self.now in
-    record { counted = counted-popped (placed a.code) (listed a.loops) c.pop.result (listed c.pop.new.self) c.pop.ensures a.counted; iterated = a.iterated; handled = a.handled }
+    record { counted = counted-popped (placed a.code.now) (listed a.loops) c.pop.result (listed c.pop.new.self) c.pop.ensures a.counted; iterated = a.iterated; handled = a.handled }
