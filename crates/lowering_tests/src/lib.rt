@@ -1,7 +1,8 @@
 // A caller of the compiler's steps over memory of its own: what the memory holds is known once the compiler is gone.
 #![tactic(auto, unfolding(lowering::specs::View::low, meaning::specs::LowerState::emit_at))]
 
-ghost use Rattle.std.specs.Prelude.{◌≡◌, IfOk, [], ◌∷◌, take};
+ghost use Rattle.std.specs.Prelude.{◌≡◌, IfErr, IfOk, [], ◌∷◌, length, take};
+ghost use Rattle.records.specs.declared.refusals.Refusal.TheVariants.{NoRoom};
 ghost use Rattle.records.specs.Tree.{nowhere};
 
 use code::{AssignOp, Instr, Loop, Op, Row};
@@ -22,7 +23,8 @@ const NO_LOOP: Loop = Loop {
     has_break_value: false,
 };
 
-// Lowers nothing but one operation: it stands at the start of the code's memory, and no row is written.
+// Lowers nothing but one operation: it stands at the start of the code's memory, if there is any, and no other memory is
+// written.
 pub fn one_operation(
     script: Script,
     code: &mut [Instr],
@@ -33,8 +35,13 @@ pub fn one_operation(
     breaks: &mut [u32],
     op: Op,
 ) -> Result<u32, Refusal>
-    ensures first { IfOk result (λ _. take 1 code.new ≡ record { op = op; at = nowhere } ∷ []) }
-    ensures rows { IfOk result (λ _. rows.new ≡ rows.old) }
+    ensures first { IfOk result (λ place. (place ≡ 0) × (take 1 code.new ≡ record { op = op; at = nowhere } ∷ [])) }
+    ensures refused { IfErr result (λ why. (why ≡ NoRoom) × ((length code.old ≡ 0) × (code.new ≡ code.old))) }
+    ensures rows { rows.new ≡ rows.old }
+    ensures names { names.new ≡ names.old }
+    ensures operators { operators.new ≡ operators.old }
+    ensures slots { slots.new ≡ slots.old }
+    ensures breaks { breaks.new ≡ breaks.old }
 {
     let mut code = Stack {
         items: code,
